@@ -2,3 +2,10 @@ pub mod Numbers
 pub mod Lists
 pub mod Passing
 pub mod Stream
+pub mod Plan
+pub mod Pass
+pub mod Coded
+pub mod Trace
+pub mod Sound
+pub mod Sections
+pub mod Translated

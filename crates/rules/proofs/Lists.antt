@@ -1,5 +1,7 @@
--- Case splits, and what a byte of a part, a paste, a splice, a joined pair and a row of lanes is.
+-- Case splits and tests, what holds of every item of a list, and what a byte of a part, a paste, a splice, a joined pair and a
+-- row of lanes is.
 use mathlib.Core.Path.{_≡_, refl, sym, ap, _∙_}
+use mathlib.Core.Bool.{Bool, true, false, _&&_, false≢true}
 use mathlib.Core.List.{List, [], _∷_, _++_}
 use Prim.Native.Nat.{ℕ, zero, suc, _+_, _-_, _*_, _/_, _%_, _^_, _≤_, _<_}
 use native.Mathlib.Nat.{mul-le-mul-right, mod-lt, div-add-mod', mod-eq-of-lt, add-mul-mod-self-left, mul-add-div, mod-add-div, div-lt-iff-lt-mul}
@@ -19,6 +21,24 @@ split {G} a b f g = go (decLt a b)
     go : Dec (a < b) → G
     go (yes h) = f h
     go (no h) = g (not-lt a b h)
+
+-- both of two tests
+pub and-left : (a b : Bool) → (a && b) ≡ true → a ≡ true
+and-left true b e = refl
+and-left false b e = absurd (false≢true e)
+
+pub and-right : (a b : Bool) → (a && b) ≡ true → b ≡ true
+and-right true b e = e
+and-right false b e = absurd (false≢true e)
+
+-- what holds of every item
+pub data Every {A : Type 0} (P : A → Type 0) : List A → Type 0 where
+  none : Every P []
+  more : {a : A} {l : List A} → P a → Every P l → Every P (a ∷ l)
+
+pub every-append : {A : Type 0} {P : A → Type 0} {l r : List A} → Every P l → Every P r → Every P (l ++ r)
+every-append none r = r
+every-append (more p l) r = more p (every-append l r)
 
 -- a byte past the seam
 pub getD-past : (p q : List ℕ) (n i : ℕ) → length p ≡ n → getD (p ++ q) (n + i) 0 ≡ getD q i 0
