@@ -9,3 +9,4 @@ pub mod Trace
 pub mod Sound
 pub mod Sections
 pub mod Translated
+pub mod Stores
