@@ -10,3 +10,9 @@ pub mod Sound
 pub mod Sections
 pub mod Translated
 pub mod Stores
+pub mod Dominant
+pub mod Placed
+pub mod PlacedSize
+pub mod RowLaws
+pub mod FormLaws
+pub mod ReadingLaws

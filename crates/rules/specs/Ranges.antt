@@ -42,4 +42,5 @@ takes zero = 0
 takes (suc zero) = 0
 takes (suc (suc zero)) = 0
 takes (suc (suc (suc zero))) = 2
-takes (suc (suc (suc (suc k)))) = 1
+takes (suc (suc (suc (suc zero)))) = 1
+takes (suc (suc (suc (suc (suc k))))) = 0

@@ -63,7 +63,8 @@ follow (Stop answer) here head nodes next = refused answer
 follow End here head nodes next = record { answer = Done; head = head ++ here .count ∷ []; nodes = nodes }
 follow (Node row there) here head nodes next = next row there
 
--- the lines from here on, of which so many more may be nodes: a 65th is SHAPE, so no sheet has more
+-- the lines from here on, of which so many more may be nodes. A 65th is SHAPE on its own line (nodeLine), so nothing ever follows
+-- a line that is read with none left
 unfoldable pub linesFrom : ℕ → List ℕ → (D : ℕ) → Cursor → List ℕ → List ℕ → Sheet
 linesFrom zero text D here head nodes =
     follow (lineAt text D here) here head nodes (λ row there. refused (Shape (here .line)))
