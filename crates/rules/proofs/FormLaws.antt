@@ -113,6 +113,29 @@ first-done answer later = go (answer .number) refl
     go zero e h = (e, h)
     go (suc number) e h = absurd (omega arith)
 
+-- an answer whose number is 0 is done
+pub first-is-done : (l : List Answer) → first l .number ≡ DONE → first l ≡ done
+unfolding first
+first-is-done [] h = refl
+first-is-done (answer ∷ later) h = go (answer .number) refl (first-is-done later) h
+  where
+    go : (number : ℕ) → answer .number ≡ number → (first later .number ≡ DONE → first later ≡ done)
+        → orElse number answer (first later) .number ≡ DONE → orElse number answer (first later) ≡ done
+    go zero e ih h = ih h
+    go (suc number) e ih h = absurd (omega arith)
+
+-- checks that find nothing wherever those before them found nothing add no answer
+pub first-skip : (before later : List Answer) → (first before .number ≡ DONE → first later ≡ done) → first (before ++ later) ≡ first before
+unfolding first
+first-skip [] later h = h refl
+first-skip (answer ∷ before) later h = go (answer .number) (first-skip before later) h
+  where
+    go : (number : ℕ) → ((first before .number ≡ DONE → first later ≡ done) → first (before ++ later) ≡ first before)
+        → (orElse number answer (first before) .number ≡ DONE → first later ≡ done)
+        → orElse number answer (first (before ++ later)) ≡ orElse number answer (first before)
+    go zero ih h = ih h
+    go (suc number) ih h = refl
+
 pub each-done : (check : ℕ → Answer) (k : ℕ) (later : List Answer) → first (each check k ++ later) .number ≡ DONE
     → ((j : ℕ) → j < k → check j .number ≡ DONE) × (first later .number ≡ DONE)
 each-done check zero later h = ((λ j l. absurd (omega arith)), h)
@@ -244,6 +267,45 @@ module _ (W : ℕ) (g : Graph) (f : Formed W g) where
       let o = f .rows .inRange k h in
       tree-is (NodeOk W (g .D)) k h (λ e. rw e at o) (λ e. rw e at o) (λ e l r. rw e at o) (λ e c. rw e at o))
 
+-- ---- its number of nodes
+
+abbrev counts : List Tree → ℕ
+counts [] = 0
+counts (t ∷ ts) = count t + counts ts
+
+push-counts : (kind x y : ℕ) (ts : List Tree) (W D : ℕ) → rowOk W D kind x y ≡ true → takes kind ≤ length ts
+    → counts (push (nodeOf kind x y) ts) ≡ counts ts + 1
+unfolding rowOk takes
+push-counts zero x y ts W D o e = absurd (false≢true o)
+push-counts (suc zero) x y ts W D o e = omega arith
+push-counts (suc (suc zero)) x y ts W D o e = omega arith
+push-counts (suc (suc (suc zero))) x y [] W D o e = absurd (omega arith)
+push-counts (suc (suc (suc zero))) x y (r ∷ []) W D o e = absurd (omega arith)
+push-counts (suc (suc (suc zero))) x y (r ∷ l ∷ ts) W D o e = omega arith
+push-counts (suc (suc (suc (suc zero)))) x y [] W D o e = absurd (omega arith)
+push-counts (suc (suc (suc (suc zero)))) x y (t ∷ ts) W D o e = omega arith
+push-counts (suc (suc (suc (suc (suc k))))) x y ts W D o e = absurd (false≢true o)
+
+waiting-counts : (W D : ℕ) (nodes : List ℕ) (k : ℕ) → ((j : ℕ) → j < k → takes (cell nodes j 0) ≤ waits nodes j)
+    → ((j : ℕ) → j < k → rowOk W D (cell nodes j 0) (cell nodes j 1) (cell nodes j 2) ≡ true) → counts (waiting (nodeAt nodes) k) ≡ k
+unfolding waiting nodeAt
+waiting-counts W D nodes zero e o = refl
+waiting-counts W D nodes (suc k) e o =
+    let e′ : (j : ℕ) → j < k → takes (cell nodes j 0) ≤ waits nodes j = λ j l. e j (omega arith) in
+    let o′ : (j : ℕ) → j < k → rowOk W D (cell nodes j 0) (cell nodes j 1) (cell nodes j 2) ≡ true = λ j l. o j (omega arith) in
+    push-counts (cell nodes k 0) (cell nodes k 1) (cell nodes k 2) (waiting (nodeAt nodes) k) W D (o k (omega arith))
+    (rw (length-waiting W D nodes k e′ o′) (e k (omega arith)))
+    ∙ omega (arith, waiting-counts W D nodes k e′ o′)
+
+-- the tree of a graph that passes has a node for each row
+pub formed-count : (W : ℕ) (g : Graph) → Formed W g → count (treeOf (g .nodes) (g .N)) ≡ g .N
+formed-count W g f =
+    let e : counts (treeOf (g .nodes) (g .N) ∷ []) ≡ g .N =
+    rw (formed-one-waits W g f) at (waiting-counts W (g .D) (g .nodes) (g .N) (f .rows .enough) (f .rows .inRange)) in
+    omega (arith, e)
+
+-- ---- and back: the rows of a tree make a graph that passes
+
 rows-as : (W D : ℕ) {k k′ now now′ : ℕ} {nodes nodes′ : List ℕ} → k ≡ k′ → now ≡ now′ → nodes ≡ nodes′
     → Rows W D k now nodes → Rows W D k′ now′ nodes′
 rows-as W D p q s r = rw (p, q, s) at r
@@ -272,7 +334,6 @@ rows-tree W D k now nodes (shift f g t) e h o =
     rows-as W D (omega arith) (omega arith) (simp append-assoc)
     (rows-next W D (k + count t) (now + 1) shiftKind f g n₁ e₁ h₁ (o .0) (omega arith))
 
--- so the rows of a tree make a graph that passes
 pub tree-formed : (W : ℕ) (g : Graph) (t : Tree) → headOk (g .D) (g .n) (g .S) ≡ true → TreeOk W (g .D) t → count t ≤ nodesMost
     → Formed W (withTree g t)
 tree-formed W g t h o m =

@@ -16,3 +16,8 @@ pub mod PlacedSize
 pub mod RowLaws
 pub mod FormLaws
 pub mod ReadingLaws
+pub mod PlacedForm
+pub mod Checked
+pub mod Handed
+pub mod Unrefused
+pub mod Demands

@@ -26,13 +26,19 @@ use Rattle.rules.proofs.Sections.{no-passes}
 -- ---- the formula
 
 module _ (W S : ℕ) (t : Tree) where
-  length-only : (D n : ℕ) → length (onlySection W S t D n) ≡ G t + 4
+  pub length-only : (D n : ℕ) → length (onlySection W S t D n) ≡ G t + 4
   unfolding onlySection
   length-only D n = simp (length-append, length-code)
 
-  length-prologue : length (prologueSection W S t) ≡ G t + 3
+  pub length-prologue : length (prologueSection W S t) ≡ G t + 3
   unfolding prologueSection
   length-prologue = simp (length-append, length-code)
+
+  pub length-body : (F : ℕ) → length (bodyOf W S t F) ≤ G t + 1
+  unfolding bodySection
+  length-body zero = omega arith
+  length-body (suc zero) = omega arith
+  length-body (suc (suc f)) = simp (length-append, length-code) (omega arith)
 
   -- the body's section is there only where it has a turn
   length-turns : (f : ℕ) → f * length (bodyOf W S t (suc f)) ≡ f * (G t + 1)
@@ -40,7 +46,7 @@ module _ (W S : ℕ) (t : Tree) where
   length-turns zero = omega arith
   length-turns (suc f) = simp (length-append, length-code)
 
-  length-epilogue : (D e : ℕ) → length (epilogueOf W D S t e) ≡ epilogueSteps (G t) e
+  pub length-epilogue : (D e : ℕ) → length (epilogueOf W D S t e) ≡ epilogueSteps (G t) e
   unfolding epilogueSection
   length-epilogue D zero = refl
   length-epilogue D (suc e) = simp (length-append, length-code)

@@ -1,0 +1,251 @@
+-- The three demands, of the definitions of the calls (specs/Calls.antt): what the layers' contracts say they give and leave.
+-- Everything holds over any width W of a vector that VectorWidth admits; `sixteen` is the paper's.
+--
+-- Demand 1. Every input gets one fixed answer (`decided`); a refusal changes no window and leaves lent tables as laid down; a
+-- stopped run leaves exactly the stores made so far (`running-cut`).
+-- Demand 2. A bare sheet that is not refused, placed by any of the four rules, translated and run, leaves the plain loop's
+-- memory of the bare sheet (`planned-runs`, `placed-runs`).
+-- Demand 3. Any graph that translating does not refuse, whoever drew it, becomes a program that never faults, is done in exactly
+-- the formula's steps, stores into the blocks that hold a byte of the plan and no other, each once, and leaves the plain loop's
+-- memory (`translated-runs`, `runs-never-fault`).
+use mathlib.Core.Path.{_≡_, refl, sym, ap, _∙_}
+use mathlib.Core.Bool.{Bool, true, false, _||_}
+use mathlib.Core.List.{List, [], _∷_, _++_, append-nil}
+use Prim.Native.Nat.{ℕ, zero, suc, _+_, _*_, _/_, _%_, _≤_, _<_}
+use native.Mathlib.Nat.{sub-zero}
+use native.Mathlib.Omega.{arith}
+use lib.ListN.{length, getD, take, replicate}
+use Rattle.rules.specs.Answers.{Answer, DONE, ROOM, OUT, FAULT, at, after, done, first}
+use Rattle.rules.specs.Trees.{Tree, treeOf, rows, count}
+use Rattle.rules.specs.PlainLoop.{window, plain}
+use Rattle.rules.specs.Placing.{place}
+use Rattle.rules.specs.Machine.{Program, Timed, Standing, trace, runs, start}
+use Rattle.rules.specs.Code.{G, programOf, stepsOf}
+use Rattle.rules.specs.Tables.{Graph, graphOf, withTree, headOf, entries, programHead, programIn, padded, left}
+use Rattle.rules.specs.Checks.{headShort, nodesShort, sectionShort, roomCheck, ruleCheck, formCheck, bareCheck, windowCheck, alignCheck, boundsCheck, carryCheck, offsetCheck, longCheck}
+use Rattle.rules.specs.Limits.{longMost}
+use Rattle.rules.specs.Offsets.{rootKept}
+use Rattle.rules.specs.Calls.{programLeft, WithSheet, WithProgram, WithWork, graphTree, graphPlain, graphProgram, placedGraph, placeAnswer, placing, translateAnswer, translating, planAnswer, planning, startAnswer, ended, running}
+use Rattle.rules.specs.declared.program.ProgramHead.{ProgramHead}
+use Rattle.rules.proofs.Lists.{split}
+use Rattle.rules.proofs.Pass.{storeBlock}
+use Rattle.rules.proofs.Passing.{Loop, Passes}
+use Rattle.rules.proofs.Trace.{Cut, runs-cut}
+use Rattle.rules.proofs.Stores.{storesOf, upFrom, planBlocks, HoldsPlan, program-stores, stored-holds-plan, plan-is-stored}
+use Rattle.rules.proofs.Placed.{Unshifted, place-plain, place-passes, place-root}
+use Rattle.rules.proofs.PlacedSize.{place-short}
+use Rattle.rules.proofs.RowLaws.{rows-read-back, padded-rows-read-back}
+use Rattle.rules.proofs.FormLaws.{Formed, first-done, first-is-done, first-skip, refuse-done, neither, passes-formed, formed-count}
+use Rattle.rules.proofs.Checked.{VectorWidth, HeadPasses, loop-from, head-of, graph-passes, graph-bare, graph-unshifted, offset-done, bare-count, long-done}
+use Rattle.rules.proofs.Unrefused.{placed-offset-done, placed-long-done}
+use Rattle.rules.proofs.Handed.{handed-done, handed-out, read-back}
+
+-- ---- Demand 1
+
+-- a contract that is one equation, everything given and left ≡ definition of everything handed in, allows one outcome an input
+pub decided : {A B : Type 0} (definition : A → B) (input : A) {one other : B} → one ≡ definition input → other ≡ definition input → one ≡ other
+decided definition input a b = a ∙ sym b
+
+-- ROOM leaves a lent table unchanged; every other refusal leaves it all zero
+pub room-unchanged : (before made : List ℕ) → left ROOM before made ≡ before
+room-unchanged before made = refl
+
+pub refusal-zero : (number : ℕ) (before made : List ℕ) → ROOM < number → left number before made ≡ replicate (length before) 0
+unfolding padded
+refusal-zero zero before made h = absurd (omega arith)
+refusal-zero (suc zero) before made h = absurd (omega arith)
+refusal-zero (suc (suc number)) before made h = rw sub-zero
+
+-- for every program, budget and window: a run that could start is where its first instructions led, as many as its steps, and it
+-- stopped there for the paper's reason
+pub running-cut : (W : ℕ) (h : ProgramHead) (prologue body epilogue : List ℕ) (budget : ℕ) (work table : List ℕ)
+    → startAnswer W h prologue body epilogue (length work) (length table) .number ≡ DONE
+    → (m : Standing)
+    × (running W h prologue body epilogue budget work table ≡ ended m)
+    × Cut W (h .d) table budget 0 (start W work .state) (trace (programIn h prologue body epilogue)) m
+unfolding running
+running-cut W h prologue body epilogue budget work table e = (
+  runs W (h .d) table budget (start W work) (trace (programIn h prologue body epilogue)),
+  rw e,
+  runs-cut W (h .d) table budget 0 (start W work .state) (trace (programIn h prologue body epilogue)) (omega arith),
+)
+
+-- ---- how a program that a call gave runs
+
+-- the machine's answer and work, on the program of a call's tables
+abbrev pub runOf : (W : ℕ) → WithProgram → (budget : ℕ) (work table : List ℕ) → WithWork
+runOf W p budget work table = running W (p .head) (p .prologue) (p .body) (p .epilogue) budget work table
+
+-- the blocks that it stores into, in its order
+abbrev pub storedBy : (W : ℕ) → WithProgram → List ℕ
+storedBy W p = storesOf W (trace (programIn (p .head) (p .prologue) (p .body) (p .epilogue)))
+
+pub record Runs (W D n S steps : ℕ) (p : WithProgram) (work table plan : List ℕ) : Type 0 where
+  -- with the formula's steps or more it is done in exactly those, and leaves the plan
+  pub done : (budget : ℕ) → steps ≤ budget → runOf W p budget work table ≡ record { answer = after DONE steps; work = plan }
+  -- with less it is OUT, its budget used
+  pub out : (budget : ℕ) → budget < steps → runOf W p budget work table .answer ≡ after OUT budget
+  -- it stores into consecutive blocks, once each: those that hold a byte of the plan and no other
+  pub stores : storedBy W p ≡ upFrom (storeBlock W S 0) (planBlocks W D n S)
+  pub to-plan : (i : ℕ) → i < planBlocks W D n S → HoldsPlan W D n S (storeBlock W S i)
+  pub of-plan : (b : ℕ) → HoldsPlan W D n S b → (i : ℕ) × (i < planBlocks W D n S) × (b ≡ storeBlock W S i)
+
+-- such a run never faults, at any budget
+pub runs-never-fault : {W D n S steps : ℕ} {p : WithProgram} {work table plan : List ℕ} → Runs W D n S steps p work table plan
+    → (budget : ℕ) → runOf W p budget work table .answer .number ≡ FAULT → ⊥
+runs-never-fault {steps = steps} r budget e = split budget steps
+    (λ h. let z : OUT ≡ FAULT = sym (ap (λ (a : Answer). a .number) (r .out budget h)) ∙ e in omega arith)
+    (λ h. let z : DONE ≡ FAULT = sym (ap (λ (x : WithWork). x .answer .number) (r .done budget h)) ∙ e in omega arith)
+
+-- a translated program in lent tables that are long enough
+module _ (W : ℕ) (v : VectorWidth W) (D n S : ℕ) (work table : List ℕ) (t : Tree) (head : HeadPasses D n)
+    (c : Loop W D n S work table) (g : Passes W D n S work table t) (root : rootKept W S t ≡ true) (short : G t ≤ longMost)
+    (lengths : windowCheck W (length work) (length table) ≡ done)
+    (prologue body epilogue : List ℕ)
+    (room : (sectionShort prologue ≡ false) × (sectionShort body ≡ false) × (sectionShort epilogue ≡ false)) where
+  program-runs : Runs W D n S (stepsOf W D n S t) (programLeft done D (programOf W D n S t) prologue body epilogue) work table
+      (plain D S work table t n)
+  program-runs = record {
+    done = handed-done W v D n S work table t head c g root short lengths prologue body epilogue room;
+    out = λ budget h. ap (λ (x : WithWork). x .answer)
+        (handed-out W v D n S work table t head c g root short lengths prologue body epilogue room budget h);
+    stores = rw (read-back W v D n S work table t head c g root short lengths prologue body epilogue room)
+        (program-stores W D n S t (v .vector));
+    to-plan = stored-holds-plan W D n S work table t c g;
+    of-plan = plan-is-stored W D n S work table t c g;
+  }
+
+-- ---- Demand 3
+
+-- the windows hold bytes
+abbrev pub HoldBytes : (work table : List ℕ) → Type 0
+HoldBytes work table = (w i : ℕ) → getD (window w work table) i 0 < 256
+
+sections-roomy : (rest a b c : Bool) → (rest || a || b || c) ≡ false → (a ≡ false) × (b ≡ false) × (c ≡ false)
+sections-roomy rest a b c e =
+    let p = neither (rest || a || b) c e in
+    let q = neither (rest || a) b (p .0) in
+    (neither rest a (q .0) .1, q .1, p .1)
+
+module _ (W : ℕ) (v : VectorWidth W) (head nodes work table prologue body epilogue : List ℕ) (byte : HoldBytes work table) where
+  -- any table graph that translating does not refuse
+  pub translated-runs : translateAnswer W head nodes (length work) (length table) prologue body epilogue .number ≡ DONE
+      → let g = graphOf head nodes in
+      Runs W (g .D) (g .n) (g .S) (stepsOf W (g .D) (g .n) (g .S) (graphTree g))
+      (translating W head nodes (length work) (length table) prologue body epilogue) work table (graphPlain g work table)
+  unfolding translating windowCheck
+  translated-runs e =
+      let g = graphOf head nodes in
+      let c₁ = first-done _ _ e in
+      let c₂ = first-done _ _ (c₁ .1) in
+      let c₃ = first-done _ _ (c₂ .1) in
+      let c₄ = first-done _ _ (c₃ .1) in
+      let c₅ = first-done _ _ (c₄ .1) in
+      let c₆ = first-done _ _ (c₅ .1) in
+      let c₇ = first-done _ _ (c₆ .1) in
+      let c₈ = first-done _ _ (c₇ .1) in
+      let f : Formed W g = passes-formed W g (c₂ .0) in
+      rw (first-is-done _ e)
+      (program-runs W v (g .D) (g .n) (g .S) work table (graphTree g) (head-of W v g f work table)
+      (loop-from W v g f work table byte (c₃ .0) (c₄ .0) (c₅ .0))
+      (graph-passes W v g f work table (c₄ .0) (c₅ .0) (c₆ .0) (c₇ .0))
+      (offset-done g W (c₇ .0) .1)
+      (long-done (graphTree g) (c₈ .0))
+      (first-is-done _ (c₃ .0))
+      prologue body epilogue
+      (sections-roomy (headShort head || nodesShort nodes) _ _ _ (refuse-done _ 0 0 (c₁ .0))))
+
+-- ---- Demand 2
+
+-- the tree of a placed graph is the placed tree
+placed-tree : (W rule : ℕ) (g : Graph) → graphTree (placedGraph W rule g) ≡ place W (g .S) rule (graphTree g)
+placed-tree W rule g =
+    let t : Tree = place W (g .S) rule (graphTree g) in
+    rw append-nil at (rows-read-back t [])
+
+module _ (W : ℕ) (v : VectorWidth W) (rule : ℕ) (head nodes work table prologue body epilogue : List ℕ) (byte : HoldBytes work table) where
+  -- the one-step call: a bare sheet, by any rule
+  pub planned-runs : planAnswer W rule head nodes (length work) (length table) prologue body epilogue .number ≡ DONE
+      → let g = graphOf head nodes in
+      Runs W (g .D) (g .n) (g .S) (stepsOf W (g .D) (g .n) (g .S) (place W (g .S) rule (graphTree g)))
+      (planning W rule head nodes (length work) (length table) prologue body epilogue) work table (graphPlain g work table)
+  unfolding planning windowCheck
+  planned-runs e =
+      let g = graphOf head nodes in
+      let c₁ = first-done _ _ e in
+      let c₂ = first-done _ _ (c₁ .1) in
+      let c₃ = first-done _ _ (c₂ .1) in
+      let c₄ = first-done _ _ (c₃ .1) in
+      let c₅ = first-done _ _ (c₄ .1) in
+      let c₆ = first-done _ _ (c₅ .1) in
+      let c₇ = first-done _ _ (c₆ .1) in
+      let c₈ = first-done _ _ (c₇ .1) in
+      let f : Formed W g = passes-formed W g (c₃ .0) in
+      let c : Loop W (g .D) (g .n) (g .S) work table = loop-from W v g f work table byte (c₅ .0) (c₆ .0) (c₇ .0) in
+      let u : Unshifted (graphTree g) = graph-unshifted W v g f work table (c₄ .0) in
+      rw (first-is-done _ e, placed-tree W rule g, ← (place-plain (g .D) (g .S) work table W rule (graphTree g) (g .n)))
+      (program-runs W v (g .D) (g .n) (g .S) work table (place W (g .S) rule (graphTree g)) (head-of W v g f work table) c
+      (place-passes W (g .D) (g .n) (g .S) work table c rule (graphTree g) (graph-bare W v g f work table (c₄ .0) (c₆ .0) (c₇ .0) (c₈ .0)))
+      (place-root W (g .S) rule (graphTree g) u)
+      (place-short W (g .S) rule (graphTree g) u (bare-count W g f (c₄ .0)))
+      (first-is-done _ (c₅ .0))
+      prologue body epilogue
+      (sections-roomy (headShort head || nodesShort nodes) _ _ _ (refuse-done _ 0 0 (c₁ .0))))
+
+  -- the tables of a graph with a tree's rows
+  tables-run : (g : Graph) (t : Tree) (headLen nodesLen : ℕ)
+      → let head′ = padded headLen (headOf (withTree g t)) in
+      let nodes′ = padded nodesLen (rows t) in
+      translateAnswer W head′ nodes′ (length work) (length table) prologue body epilogue .number ≡ DONE
+      → Runs W (g .D) (g .n) (g .S) (stepsOf W (g .D) (g .n) (g .S) t)
+      (translating W head′ nodes′ (length work) (length table) prologue body epilogue) work table (plain (g .D) (g .S) work table t (g .n))
+  unfolding padded
+  tables-run g t headLen nodesLen h =
+      rw (padded-rows-read-back nodesLen t) at
+      (translated-runs W v (padded headLen (headOf (withTree g t))) (padded nodesLen (rows t)) work table prologue body epilogue byte h)
+
+  -- placing, then translating what it gave
+  pub placed-runs : (placedHead placedNodes : List ℕ) → placing W rule head nodes placedHead placedNodes .answer .number ≡ DONE
+      → let placed = placing W rule head nodes placedHead placedNodes in
+      let g = graphOf head nodes in
+      translateAnswer W (placed .head) (placed .nodes) (length work) (length table) prologue body epilogue .number ≡ DONE
+      → Runs W (g .D) (g .n) (g .S) (stepsOf W (g .D) (g .n) (g .S) (place W (g .S) rule (graphTree g)))
+      (translating W (placed .head) (placed .nodes) (length work) (length table) prologue body epilogue) work table (graphPlain g work table)
+  unfolding placing
+  placed-runs placedHead placedNodes e h =
+      let g = graphOf head nodes in
+      rw (← (place-plain (g .D) (g .S) work table W rule (graphTree g) (g .n)), e)
+      (tables-run g (place W (g .S) rule (graphTree g)) (length placedHead) (length placedNodes) (rw e at h))
+
+both-done : (a b : Answer) → a ≡ done → b ≡ done → first (a ∷ b ∷ []) ≡ done
+unfolding first
+both-done a b p q = rw (p, q)
+
+-- the one-step call never gives OFFSET or LONG: its answer is that of the checks before them
+pub planned-unrefused : (W : ℕ) → VectorWidth W → (rule : ℕ) (head nodes : List ℕ) (workLen tableLen : ℕ) (prologue body epilogue : List ℕ)
+    → let g = graphOf head nodes in
+    planAnswer W rule head nodes workLen tableLen prologue body epilogue
+    ≡ first
+    (roomCheck (headShort head || nodesShort nodes || sectionShort prologue || sectionShort body || sectionShort epilogue)
+    ∷ ruleCheck rule
+    ∷ formCheck W g
+    ∷ bareCheck g
+    ∷ windowCheck W workLen tableLen
+    ∷ alignCheck g
+    ∷ boundsCheck g workLen tableLen
+    ∷ carryCheck g
+    ∷ [])
+planned-unrefused W v rule head nodes workLen tableLen prologue body epilogue =
+    let g = graphOf head nodes in
+    first-skip (_ ∷ _ ∷ _ ∷ _ ∷ _ ∷ _ ∷ _ ∷ _ ∷ []) (offsetCheck W (placedGraph W rule g) ∷ longCheck (graphTree (placedGraph W rule g)) ∷ [])
+    (λ e.
+    let c₁ = first-done _ _ e in
+    let c₂ = first-done _ _ (c₁ .1) in
+    let c₃ = first-done _ _ (c₂ .1) in
+    let c₄ = first-done _ _ (c₃ .1) in
+    let c₅ = first-done _ _ (c₄ .1) in
+    let c₆ = first-done _ _ (c₅ .1) in
+    let f : Formed W g = passes-formed W g (c₃ .0) in
+    let o : offsetCheck W (placedGraph W rule g) ≡ done = placed-offset-done W v g f rule (c₄ .0) (c₆ .0) in
+    let l : longCheck (graphTree (placedGraph W rule g)) ≡ done = rw (placed-tree W rule g) (placed-long-done W v g f rule (c₄ .0) (c₆ .0)) in
+    both-done (offsetCheck W (placedGraph W rule g)) (longCheck (graphTree (placedGraph W rule g))) o l)
