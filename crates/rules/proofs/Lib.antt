@@ -1,3 +1,5 @@
+pub mod Starred
+pub mod Worked
 pub mod Numbers
 pub mod Lists
 pub mod Passing
