@@ -4,13 +4,13 @@ use Prim.Native.Nat.{ℕ}
 use mathlib.Core.Path.{_≡_, refl}
 use mathlib.Core.List.{List, [], _∷_, map}
 use Rattle.rules.specs.Limits.{vectorBytes}
-use Rattle.rules.specs.Answers.{Answer, DONE, BOUNDS, CARRY, first}
+use Rattle.rules.specs.Answers.{Answer, first}
 use Rattle.rules.specs.Elements.{operate, modulus, negative, signedLess, element}
 use Rattle.rules.specs.Vectors.{vop}
 use Rattle.rules.specs.Code.{fullVectors, restElements}
 use Rattle.rules.specs.Trees.{Tree, load, rows, count}
 use Rattle.rules.specs.Tables.{Graph}
-use Rattle.rules.specs.Checks.{boundsCheck, carryCheck, storeLine, line}
+use Rattle.rules.specs.Checks.{boundsCheck, carryCheck}
 
 pub record Case : Type 0 where
   pub computed : List ℕ
@@ -76,20 +76,21 @@ starred =
     ∷ split 2 6 100 12 7
     ∷ split 2 6 4 0 7
     ∷ split 2 6 5 1 0
-    -- "A = S passes; A = S+D passes; A = S-D with n = 2 is CARRY, with n = 1 it passes."
-    ∷ carried 2 1 16 16 DONE 0
-    ∷ carried 2 2 16 16 DONE 0
-    ∷ carried 2 1 16 18 DONE 0
-    ∷ carried 2 2 16 18 DONE 0
-    ∷ carried 2 1 16 14 DONE 0
-    ∷ carried 2 2 16 14 CARRY (line 0)
-    -- "Address + nD equal to the length passes; D more is BOUNDS.": the store, a load of work, a load of table
-    ∷ bounded 2 3 26 1 0 32 16 DONE 0
-    ∷ bounded 2 3 28 1 0 32 16 BOUNDS storeLine
-    ∷ bounded 2 3 0 0 26 32 16 DONE 0
-    ∷ bounded 2 3 0 0 28 32 16 BOUNDS (line 0)
-    ∷ bounded 2 3 0 1 26 16 32 DONE 0
-    ∷ bounded 2 3 0 1 28 16 32 BOUNDS (line 0)
+    -- "A = S passes; A = S+D passes; A = S-D with n = 2 is CARRY, with n = 1 it passes.": 9 is CARRY, and line 2 the first node's
+    ∷ carried 2 1 16 16 0 0
+    ∷ carried 2 2 16 16 0 0
+    ∷ carried 2 1 16 18 0 0
+    ∷ carried 2 2 16 18 0 0
+    ∷ carried 2 1 16 14 0 0
+    ∷ carried 2 2 16 14 9 2
+    -- "Address + nD equal to the length passes; D more is BOUNDS.": the store, a load of work, a load of table; 8 is
+    -- BOUNDS, and line 1 the store's
+    ∷ bounded 2 3 26 1 0 32 16 0 0
+    ∷ bounded 2 3 28 1 0 32 16 8 1
+    ∷ bounded 2 3 0 0 26 32 16 0 0
+    ∷ bounded 2 3 0 0 28 32 16 8 2
+    ∷ bounded 2 3 0 1 26 16 32 0 0
+    ∷ bounded 2 3 0 1 28 16 32 8 2
     ∷ []
 
 pub starred-hold : map (λ c. c .computed) starred ≡ map (λ c. c .paper) starred

@@ -2,13 +2,13 @@
 -- operations, the edges that the paper lists without a star, and whole runs set beside the plain loop.
 use Prim.Native.Nat.{ℕ, zero, suc, _*_, _%_}
 use mathlib.Core.Path.{_≡_, refl, ap, _∙_}
-use mathlib.Core.Bool.{false}
+use mathlib.Core.Bool.{true, false}
 use mathlib.Core.List.{List, [], _∷_, _++_, map, append-nil}
 use native.Mathlib.Omega.{arith}
 use lib.ListN.{length, take, drop, replicate, drop-of-length-le}
 use lib.Seq.{take-all, take-at}
 use Rattle.rules.specs.Limits.{vectorBytes}
-use Rattle.rules.specs.Answers.{Answer, at, after, done, first, DONE, ROOM, LINE, RANGE, SHAPE, BARE, WINDOW, ALIGN, CARRY, OFFSET, LONG, OUT, FAULT}
+use Rattle.rules.specs.Answers.{Answer, at, after, done, first, DONE, ROOM, LINE, RANGE, SHAPE, BARE, WINDOW, ALIGN, BOUNDS, CARRY, OFFSET, LONG, OUT, FAULT}
 use Rattle.rules.specs.Elements.{operate, modulus, negative, signedLess, element}
 use Rattle.rules.specs.Digits.{isDigit, digitOf, digitRun, spelled}
 use Rattle.rules.specs.Frames.{fieldDigits, frameOf, frameAt}
@@ -23,7 +23,7 @@ use Rattle.rules.specs.Vectors.{vsplat, vop, vshiftpair, vsplice, blockZ
 use Rattle.rules.specs.Machine.{soundAs, effectAs, inPass, passes, trace, step, runs, blank}
 use Rattle.rules.specs.Code.{G, beside, pairUp, code, onlySection, prologueSection, bodySection, epilogueSection, sections, programOf, stepsOf}
 use Rattle.rules.specs.Tables.{Graph, padded, noProgram}
-use Rattle.rules.specs.Checks.{waits, formCheck, bareCheck, windowCheck, alignCheck, boundsCheck, carryCheck, offsetCheck, longCheck}
+use Rattle.rules.specs.Checks.{waits, ruleCheck, formCheck, bareCheck, windowCheck, alignCheck, boundsCheck, carryCheck, offsetCheck, longCheck}
 use Rattle.rules.specs.Calls.{WithProgram, WithWork, reading, checking, planning, looping, running}
 use Rattle.rules.specs.declared.program.ProgramHead.{ProgramHead}
 use Rattle.rules.specs.declared.nodes.Offset.the-variants.{At, Undefined}
@@ -41,7 +41,7 @@ the-reader = tt
 the-calls : Unit {0}
 unfolding reading planning looping running checking formCheck bareCheck windowCheck alignCheck boundsCheck carryCheck
     offsetCheck longCheck waits first headOk isWidth rowOk loadOk splatOk opOk shiftOk modulus takes padded treeOf treeAt
-    waiting nodeAt place toward loadsTo inputsTo dominant programOf sections onlySection prologueSection bodySection
+    waiting nodeAt place toward loadsTo inputsTo dominant programOf stepsOf sections onlySection prologueSection bodySection
     epilogueSection code beside pairUp plain value element operate negative signedLess runs step trace passes inPass blank
     soundAs effectAs vsplat vop vshiftpair vsplice blockZero inside loaded stored
 the-calls = tt
@@ -65,16 +65,6 @@ printed =
     ∷ 48 ∷ 51 ∷ 48 ∷ 48 ∷ 10
     -- 0505
     ∷ 48 ∷ 53 ∷ 48 ∷ 53 ∷ 10 ∷ []
-
--- "On done the reader's tables hold the header's fields and, node by node in the order of the lines, each frame's kind and
--- fields"
-pub printed-sheet-is-read : sheetOf printed ≡ record {
-  answer = Done;
-  head = 2 ∷ 100 ∷ 0x0206 ∷ 5 ∷ [];
-  nodes = 1 ∷ 1 ∷ 0x0002 ∷ 1 ∷ 0 ∷ 0x000A ∷ 3 ∷ 0 ∷ 0 ∷ 1 ∷ 0 ∷ 0x0102 ∷ 3 ∷ 0 ∷ 0 ∷ [];
-}
-unfolding the-reader
-printed-sheet-is-read = refl
 
 -- the loop that it stands for
 abbrev printedTree : Tree
@@ -102,17 +92,56 @@ figures rule =
     let placed = place vectorBytes 0x0206 rule printedTree in
     shifts placed ∷ G placed ∷ stepsOf vectorBytes 2 100 0x0206 placed ∷ []
 
--- "Output: 0000000400170000013C, 01000003000B000000A0, 02000003000B000000A0, 03000002000F000000D4". On this sheet EAGER and LAZY
--- make one graph; where an op's inputs agree, LAZY moves the root alone
-pub printed-sheet-is-placed :
-    (treeOf (sheetOf printed .nodes) 5 ≡ printedTree)
+-- "On done the reader's tables hold the header's fields and, node by node in the order of the lines, each frame's kind and
+-- fields". "Output: 0000000400170000013C, 01000003000B000000A0, 02000003000B000000A0, 03000002000F000000D4". On this sheet EAGER
+-- and LAZY make one graph; where an op's inputs agree, LAZY moves the root alone
+pub printed-sheet-is-read-and-placed :
+    (sheetOf printed ≡ record {
+      answer = Done;
+      head = 2 ∷ 100 ∷ 0x0206 ∷ 5 ∷ [];
+      nodes = 1 ∷ 1 ∷ 0x0002 ∷ 1 ∷ 0 ∷ 0x000A ∷ 3 ∷ 0 ∷ 0 ∷ 1 ∷ 0 ∷ 0x0102 ∷ 3 ∷ 0 ∷ 0 ∷ [];
+    })
+    × (treeOf (sheetOf printed .nodes) 5 ≡ printedTree)
     × (map (λ rule. place vectorBytes 0x0206 rule printedTree) rules ≡ byZero ∷ byEager ∷ byLazy ∷ byDominant ∷ [])
     × (map figures rules
     ≡ (4 ∷ 0x17 ∷ 0x13C ∷ []) ∷ (3 ∷ 0x0B ∷ 0xA0 ∷ []) ∷ (3 ∷ 0x0B ∷ 0xA0 ∷ []) ∷ (2 ∷ 0x0F ∷ 0xD4 ∷ []) ∷ [])
     × (map (λ rule. place vectorBytes 6 rule (op 0 (load 0 2) (load 1 18))) (1 ∷ 2 ∷ [])
     ≡ op 0 (shift 2 6 (load 0 2)) (shift 2 6 (load 1 18)) ∷ shift 2 6 (op 0 (load 0 2) (load 1 18)) ∷ [])
 unfolding the-reader treeOf waiting nodeAt place toward loadsTo inputsTo dominant stepsOf
-printed-sheet-is-placed = (refl, refl, refl, refl)
+printed-sheet-is-read-and-placed = (refl, refl, refl, refl, refl)
+
+-- ---- operations
+
+-- signed minimum and maximum of two elements
+abbrev signed : (D left right : ℕ) → List ℕ
+signed D x y = operate D 4 x y ∷ operate D 5 x y ∷ []
+
+-- "4 and 5 are minimum and maximum read as two's complement": on both sides of the sign, either way round, and for two of one
+-- sign; and 0 to 3 where the unsigned order is the other
+pub operations-on-both-sides-of-the-sign :
+    (signed 1 128 127
+    ∷ signed 1 127 128
+    ∷ signed 1 255 128
+    ∷ signed 1 128 255
+    ∷ signed 1 5 127
+    ∷ signed 1 127 5
+    ∷ signed 2 0x8000 0x7FFF
+    ∷ signed 4 0x8000_0000 0x7FFF_FFFF
+    ∷ signed 8 0xFFFF_FFFF_FFFF_FFFF 0
+    ∷ []
+    ≡ (128 ∷ 127 ∷ [])
+    ∷ (128 ∷ 127 ∷ [])
+    ∷ (128 ∷ 255 ∷ [])
+    ∷ (128 ∷ 255 ∷ [])
+    ∷ (5 ∷ 127 ∷ [])
+    ∷ (5 ∷ 127 ∷ [])
+    ∷ (0x8000 ∷ 0x7FFF ∷ [])
+    ∷ (0x8000_0000 ∷ 0x7FFF_FFFF ∷ [])
+    ∷ (0xFFFF_FFFF_FFFF_FFFF ∷ 0 ∷ [])
+    ∷ [])
+    × (map (λ o. operate 1 o 130 127) (0 ∷ 1 ∷ 2 ∷ 3 ∷ []) ≡ 1 ∷ 3 ∷ 127 ∷ 130 ∷ [])
+unfolding operate modulus negative signedLess
+operations-on-both-sides-of-the-sign = (refl, refl)
 
 -- ---- the reordering operations
 
@@ -190,10 +219,14 @@ loopOf S t = record { D = 2; n = 2; S = S; N = count t; nodes = rows t }
 abbrev rowsOf : (D N : ℕ) → List ℕ → Graph
 rowsOf D N nodes = record { D = D; n = 2; S = 0; N = N; nodes = nodes }
 
--- 3 and 4 "as if read", 5, 6, 7, 10 and 11: each number with its place
+-- the numbers of the table in their order; then 3 and 4 "as if read", 5, 6, 7, 10 and 11, each with its place
 pub checks-at-their-edges :
+    (DONE ∷ ROOM ∷ LINE ∷ RANGE ∷ SHAPE ∷ BARE ∷ WINDOW ∷ ALIGN ∷ BOUNDS ∷ CARRY ∷ OFFSET ∷ LONG ∷ OUT ∷ FAULT ∷ [] ≡ upTo 14)
+    × (ruleCheck 3 ∷ ruleCheck 4 ∷ [] ≡ done ∷ at RANGE 0 ∷ [])
+    × (headOk 8 4096 65535 ∷ headOk 8 4097 0 ∷ headOk 8 0 65536 ∷ loadOk 1 65535 ∷ loadOk 1 65536 ∷ []
+    ≡ true ∷ false ∷ false ∷ true ∷ false ∷ [])
     -- an unknown kind is RANGE; an operation 6 is RANGE also where nothing waits, and an operation 0 is then SHAPE
-    (map (formCheck vectorBytes)
+    × (map (formCheck vectorBytes)
     (rowsOf 3 1 (1 ∷ 0 ∷ 0 ∷ [])
     ∷ rowsOf 2 1 (5 ∷ 0 ∷ 0 ∷ [])
     ∷ rowsOf 2 1 (3 ∷ 6 ∷ 0 ∷ [])
@@ -202,10 +235,10 @@ pub checks-at-their-edges :
     ∷ loopOf 0 (shift 2 2 (load 0 2))
     ∷ loopOf 0 (shift 2 3 (load 0 2))
     ∷ loopOf 0 (shift 2 16 (load 0 2))
-    -- no node; two wait; 63 nodes; a 65th
+    -- no node; two wait; 64 nodes; a 65th
     ∷ rowsOf 2 0 []
     ∷ rowsOf 2 2 (1 ∷ 0 ∷ 0 ∷ 1 ∷ 0 ∷ 0 ∷ [])
-    ∷ loopOf 0 (added 31)
+    ∷ loopOf 0 (shift 0 2 (added 31))
     ∷ loopOf 0 (added 32)
     ∷ [])
     ≡ at RANGE 1
@@ -248,7 +281,7 @@ pub checks-at-their-edges :
     × (map longCheck longTrees ≡ done ∷ at LONG 0 ∷ done ∷ at LONG 0 ∷ [])
 unfolding formCheck waits bareCheck windowCheck alignCheck offsetCheck longCheck first headOk isWidth rowOk loadOk splatOk
     opOk shiftOk modulus takes treeOf treeAt waiting nodeAt
-checks-at-their-edges = (refl, refl, refl, refl, refl, refl, refl)
+checks-at-their-edges = (refl, refl, refl, refl, refl, refl, refl, refl, refl, refl)
 
 -- ---- reading
 
@@ -290,9 +323,17 @@ pub reading-names-the-first-line-at-fault :
     -- two wait at the end; a wrong number of nodes
     ∷ (header ++ (aLoad ++ (aLoad ++ ending 48 50)))
     ∷ (header ++ (aLoad ++ ending 48 50))
-    -- 63 nodes, and a 65th
-    ∷ (header ++ (summed 31 ++ ending 51 70))
+    -- 64 nodes, the last by 040002, and a 65th
+    ∷ (header ++ (summed 31 ++ (48 ∷ 52 ∷ 48 ∷ 48 ∷ 48 ∷ 50 ∷ 10 ∷ ending 52 48)))
     ∷ (header ++ (summed 32 ++ ending 52 49))
+    -- what stands before 0, after 9, before A and after F, and a lower-case a
+    ∷ (take 11 header ++ (47 ∷ 10 ∷ []))
+    ∷ (take 11 header ++ (58 ∷ 10 ∷ []))
+    ∷ (take 11 header ++ (64 ∷ 10 ∷ []))
+    ∷ (take 11 header ++ (71 ∷ 10 ∷ []))
+    ∷ (take 11 header ++ (97 ∷ 10 ∷ []))
+    -- 9 and F are digits: the end is missing
+    ∷ (take 10 header ++ (57 ∷ 70 ∷ 10 ∷ []))
     ∷ [])
     ≡ Line 1
     ∷ Shape 2
@@ -307,6 +348,12 @@ pub reading-names-the-first-line-at-fault :
     ∷ Shape 3
     ∷ Done
     ∷ Shape 66
+    ∷ Line 1
+    ∷ Line 1
+    ∷ Line 1
+    ∷ Line 1
+    ∷ Line 1
+    ∷ Line 2
     ∷ []
 unfolding the-reader
 reading-names-the-first-line-at-fault = refl
@@ -407,10 +454,12 @@ pub carrying-loop-is-looped-and-not-planned :
 unfolding the-calls
 carrying-loop-is-looped-and-not-planned = (refl, refl)
 
--- a program's run by a rule is done after so many steps, a budget of just as many, and leaves what the plain loop leaves
+-- a program's run by a rule is done after so many steps, a budget of just as many and the count of the definition, and leaves
+-- what the plain loop leaves
 abbrev RunsAsLoop : Loop → (rule steps : ℕ) → List ℕ → Type 0
 RunsAsLoop l rule steps work =
     (ran l rule steps ≡ record { answer = after DONE steps; work = work }) × (looped l ≡ record { answer = done; work = work })
+    × (stepsOf vectorBytes (l .D) (l .n) (l .S) (place vectorBytes (l .S) rule (l .tree)) ≡ steps)
 
 -- D = 2, c = 6, n = 4: four elements within one block, table minus work
 abbrev withinOneBlock : Loop
@@ -427,7 +476,7 @@ pub runs-without-a-whole-vector-are-their-loops :
     × (ran withinOneBlock 1 10 ≡ record { answer = after OUT 10; work = upTo 48 })
     × RunsAsLoop noElement 1 0 (upTo 32)
 unfolding the-calls
-runs-without-a-whole-vector-are-their-loops = ((refl, refl), refl, (refl, refl))
+runs-without-a-whole-vector-are-their-loops = ((refl, refl, refl), refl, (refl, refl, refl))
 
 -- D = 2, c = 6, n = 15, so F = 2 and e = 2: table minus work, but at least 16 as a signed number
 abbrev overThreeBlocks : Loop
@@ -451,7 +500,7 @@ pub runs-with-whole-vectors-are-their-loops :
     RunsAsLoop overThreeBlocks 0 64 overThreeBlocksAfter
     × RunsAsLoop lastColumn 2 6 (take 24 (upTo 32) ++ (23 ∷ drop 25 (upTo 32)))
 unfolding the-calls
-runs-with-whole-vectors-are-their-loops = ((refl, refl), (refl, refl))
+runs-with-whole-vectors-are-their-loops = ((refl, refl, refl), (refl, refl, refl))
 
 -- ---- the machine on programs that no translator made
 
@@ -478,11 +527,15 @@ pub faults-at-their-edges :
     ∷ (1 ∷ 1024 ∷ 0 ∷ 0 ∷ 0 ∷ 0 ∷ [])
     ∷ (1 ∷ 0 ∷ 1 ∷ 0 ∷ 0 ∷ 0 ∷ [])
     ∷ (1 ∷ 0 ∷ 2 ∷ 0 ∷ 0 ∷ 0 ∷ [])
-    -- a splat of 255, of 256, of 2^32
+    -- a splat into register 1,024; of 255, of 256, of 2^32
+    ∷ (2 ∷ 1024 ∷ 0 ∷ 0 ∷ 0 ∷ 0 ∷ [])
     ∷ (2 ∷ 0 ∷ 0 ∷ 0 ∷ 255 ∷ 0 ∷ [])
     ∷ (2 ∷ 0 ∷ 0 ∷ 0 ∷ 256 ∷ 0 ∷ [])
     ∷ (2 ∷ 0 ∷ 0 ∷ 0 ∷ 0 ∷ 1 ∷ [])
-    -- operation 5, and 6
+    -- an op whose destination, left, right is register 1,024; operation 5, and 6
+    ∷ (3 ∷ 1024 ∷ 0 ∷ 0 ∷ 0 ∷ 0 ∷ [])
+    ∷ (3 ∷ 0 ∷ 1024 ∷ 0 ∷ 0 ∷ 0 ∷ [])
+    ∷ (3 ∷ 0 ∷ 0 ∷ 1024 ∷ 0 ∷ 0 ∷ [])
     ∷ (3 ∷ 0 ∷ 0 ∷ 0 ∷ 5 ∷ 0 ∷ [])
     ∷ (3 ∷ 0 ∷ 0 ∷ 0 ∷ 6 ∷ 0 ∷ [])
     -- vshiftpair by 15, and by 16; vsplice at 16, and at 17
@@ -490,7 +543,8 @@ pub faults-at-their-edges :
     ∷ (4 ∷ 0 ∷ 0 ∷ 0 ∷ 16 ∷ 0 ∷ [])
     ∷ (5 ∷ 0 ∷ 0 ∷ 0 ∷ 16 ∷ 0 ∷ [])
     ∷ (5 ∷ 0 ∷ 0 ∷ 0 ∷ 17 ∷ 0 ∷ [])
-    -- a store at 15, at 16, at -1
+    -- a store of register 1,024; at 15, at 16, at -1
+    ∷ (6 ∷ 0 ∷ 1024 ∷ 0 ∷ 0x8000_0000 ∷ 0 ∷ [])
     ∷ (6 ∷ 0 ∷ 0 ∷ 0 ∷ 0x8000_000F ∷ 0 ∷ [])
     ∷ (6 ∷ 0 ∷ 0 ∷ 0 ∷ 0x8000_0010 ∷ 0 ∷ [])
     ∷ (6 ∷ 0 ∷ 0 ∷ 0 ∷ 0x7FFF_FFFF ∷ 0 ∷ [])
@@ -498,7 +552,12 @@ pub faults-at-their-edges :
     ∷ (0 ∷ 0 ∷ 0 ∷ 0 ∷ 0 ∷ 0 ∷ [])
     ∷ (7 ∷ 0 ∷ 0 ∷ 0 ∷ 0 ∷ 0 ∷ [])
     ∷ [])
-    ≡ DONE ∷ FAULT ∷ DONE ∷ FAULT ∷ DONE ∷ FAULT ∷ FAULT ∷ DONE ∷ FAULT ∷ DONE ∷ FAULT ∷ DONE ∷ FAULT ∷ DONE ∷ FAULT ∷ FAULT ∷ FAULT ∷ FAULT ∷ [])
+    ≡ DONE ∷ FAULT ∷ DONE ∷ FAULT
+    ∷ FAULT ∷ DONE ∷ FAULT ∷ FAULT
+    ∷ FAULT ∷ FAULT ∷ FAULT ∷ DONE ∷ FAULT
+    ∷ DONE ∷ FAULT ∷ DONE ∷ FAULT
+    ∷ FAULT ∷ DONE ∷ FAULT ∷ FAULT
+    ∷ FAULT ∷ FAULT ∷ [])
     × (prologueAlone 1 0 (7 ∷ 0 ∷ 0 ∷ 0 ∷ 0 ∷ 0 ∷ []) ≡ record { answer = after OUT 0; work = replicate 16 9 })
     × (prologueAlone 3 3
     ((2 ∷ 0 ∷ 0 ∷ 0 ∷ 3 ∷ 0 ∷ []) ++ (1 ∷ 0 ∷ 0 ∷ 0 ∷ 0x7FFF_FFFF ∷ 0 ∷ []) ++ (6 ∷ 0 ∷ 0 ∷ 0 ∷ 0x8000_0000 ∷ 0 ∷ []))
@@ -510,5 +569,11 @@ pub faults-at-their-edges :
     ∷ record { d = 3; f = 0; prologue = 1; body = 0; epilogue = 0 }
     ∷ [])
     ≡ after FAULT 0 ∷ after DONE 0 ∷ after FAULT 0 ∷ at ROOM 0 ∷ [])
+    -- "a section longer than 1,024 or than its table": 1,024 rows in a table of as many, in one of an entry less, and 1,025 rows
+    × (prologueAlone 1024 0 (replicate 6144 0) .answer
+    ∷ prologueAlone 1024 0 (replicate 6143 0) .answer
+    ∷ prologueAlone 1025 0 (replicate 6150 0) .answer
+    ∷ []
+    ≡ after OUT 0 ∷ at ROOM 0 ∷ at ROOM 0 ∷ [])
 unfolding the-calls
-faults-at-their-edges = (refl, refl, refl, refl)
+faults-at-their-edges = (refl, refl, refl, refl, refl)

@@ -9,28 +9,28 @@ use native.Mathlib.Omega.{arith}
 use borrow.Author.Tests.{le-ltb, ltb-false}
 use lib.Dec.{ltb}
 use lib.ListN.{length, take, length-append, length-replicate, replicate}
 use Rattle.rules.specs.Limits.{registers, sectionMost, longMost, elementsMost, turnsMost, instructionEntries}
 use Rattle.rules.specs.Answers.{Answer, DONE, OUT, at, after, first, refuseIf, ROOM, orElse, done}
 use Rattle.rules.specs.Units.{isWidth}
 use Rattle.rules.specs.Trees.{Tree}
 use Rattle.rules.specs.PlainLoop.{plain}
 use Rattle.rules.specs.Offsets.{rootKept}
 use Rattle.rules.specs.Machine.{Program, Timed, trace, runs, start, standing, blank}
 use Rattle.rules.specs.Code.{G, fullVectors, restElements, onlySection, prologueSection, bodySection, epilogueSection, bodyOf, epilogueOf, sections, programOf, epilogueSteps, stepsOf}
 use Rattle.rules.specs.Tables.{entries, programHead, programIn, padded}
 use Rattle.rules.specs.Checks.{sectionShort, sectionLong, windowCheck, startFault, roomCheck}
 use Rattle.rules.specs.Calls.{WithWork, ended, started, startAnswer, running}
 use Rattle.rules.specs.declared.program.Instruction.{Instruction}
-use Rattle.rules.proofs.Passing.{Loop, Passes}
-use Rattle.rules.proofs.Pass.{plan-bytes}
-use Rattle.rules.proofs.Coded.{depth-le-size}
-use Rattle.rules.proofs.Trace.{made}
-use Rattle.rules.proofs.Sound.{blank-whole, sound-done, sound-out}
-use Rattle.rules.proofs.Sections.{program-plain}
-use Rattle.rules.proofs.Translated.{length-only, length-prologue, length-body, length-epilogue, length-program, program-sound}
-use Rattle.rules.proofs.RowLaws.{length-entries, length-padded, padded-entries-read-back}
-use Rattle.rules.proofs.FormLaws.{first-done}
-use Rattle.rules.proofs.Checked.{VectorWidth, HeadPasses, width-most}
+use Rattle.theory.proofs.Passing.{Loop, Passes}
+use Rattle.theory.proofs.Pass.{plan-bytes}
+use Rattle.theory.proofs.Coded.{depth-le-size}
+use Rattle.theory.proofs.Trace.{made}
+use Rattle.theory.proofs.Sound.{blank-whole, sound-done, sound-out}
+use Rattle.theory.proofs.Sections.{program-plain}
+use Rattle.theory.proofs.Translated.{length-only, length-prologue, length-body, length-epilogue, length-program, program-sound}
+use Rattle.theory.proofs.RowLaws.{length-entries, length-padded, padded-entries-read-back}
+use Rattle.theory.proofs.FormLaws.{first-done}
+use Rattle.theory.proofs.Checked.{VectorWidth, HeadPasses, width-most}
 
 -- ---- a program's sections fit their tables
 

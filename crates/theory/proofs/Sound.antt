@@ -11,17 +11,17 @@ use borrow.Author.Tests.{lt-ltb, le-ltb, ltb-true, leb-true}
 use lib.Dec.{ltb, leb}
 use lib.ListN.{length, take, getD, set, length-set, replicate, length-replicate, getD-replicate}
 use lib.Seq.{getD-set-same, getD-set-other, length-paste}
 use Rattle.rules.specs.Limits.{registers, windows, operations}
 use Rattle.rules.specs.Answers.{DONE, OUT}
 use Rattle.rules.specs.Elements.{toBytes}
 use Rattle.rules.specs.PlainLoop.{window}
 use Rattle.rules.specs.Vectors.{vsplat, vop, blockZero, blockOf, inside, loaded, stored}
 use Rattle.rules.specs.Machine.{State, reg, write, soundAs, sound, effectAs, effect, Program, Timed, inPass, passes, trace, standing, step, runs, blank, splatValue}
 use Rattle.rules.specs.declared.program.Instruction.{Instruction}
-use Rattle.rules.proofs.Lists.{split, and-left, and-right, Every, none, more, every-append, length-lanes, length-pair, length-splice}
-use Rattle.rules.proofs.Numbers.{length-toBytes}
-use Rattle.rules.proofs.Stream.{length-loaded}
-use Rattle.rules.proofs.Trace.{made, runs-stopped}
+use Rattle.theory.proofs.Lists.{split, and-left, and-right, Every, none, more, every-append, length-lanes, length-pair, length-splice}
+use Rattle.theory.proofs.Numbers.{length-toBytes}
+use Rattle.theory.proofs.Stream.{length-loaded}
+use Rattle.theory.proofs.Trace.{made, runs-stopped}
 
 -- 1,024 registers of W bytes each, and a work of len bytes
 pub record Whole (W len : ℕ) (s : State) : Type 0 where

@@ -7,18 +7,18 @@ use Prim.Native.Nat.{ℕ, zero, suc, _+_, _-_, _*_, _/_, _%_, _≤_, _<_, min}
 use native.Mathlib.Nat.{mod-lt, mul-le-mul-right}
 use native.Mathlib.Omega.{arith}
 use lib.ListN.{length}
 use Rattle.rules.specs.Trees.{Tree}
 use Rattle.rules.specs.PlainLoop.{plain}
 use Rattle.rules.specs.Offsets.{rootKept}
 use Rattle.rules.specs.Vectors.{vsplice, blockZero, held, loaded, stored}
 use Rattle.rules.specs.Machine.{Load, Splice, Store, State, reg, write, effect, effectAs, Program, inPass, passes, trace}
 use Rattle.rules.specs.Code.{G, code, fullVectors, restElements, onlySection, prologueSection, bodySection, epilogueSection, bodyOf, epilogueOf, sections, programOf}
-use Rattle.rules.proofs.Passing.{Loop, Passes}
-use Rattle.rules.proofs.Stream.{vec, length-loaded, length-vec}
-use Rattle.rules.proofs.Plan.{Upto, upto-unique, upto-start, upto-cast, plain-upto}
-use Rattle.rules.proofs.Pass.{Masked, storeBlock, plan-bytes, pass-new, only-masked, prologue-masked, body-masked, epilogue-masked}
-use Rattle.rules.proofs.Coded.{size-pos, depth, block-moved, Coded, coded-cast, write-coded, execs, code-coded}
-use Rattle.rules.proofs.Trace.{made, made-append, made-pass}
+use Rattle.theory.proofs.Passing.{Loop, Passes}
+use Rattle.theory.proofs.Stream.{vec, length-loaded, length-vec}
+use Rattle.theory.proofs.Plan.{Upto, upto-unique, upto-start, upto-cast, plain-upto}
+use Rattle.theory.proofs.Pass.{Masked, storeBlock, plan-bytes, pass-new, only-masked, prologue-masked, body-masked, epilogue-masked}
+use Rattle.theory.proofs.Coded.{size-pos, depth, block-moved, Coded, coded-cast, write-coded, execs, code-coded}
+use Rattle.theory.proofs.Trace.{made, made-append, made-pass}
 
 -- ---- what a section stores
 

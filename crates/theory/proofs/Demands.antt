@@ -15,30 +15,30 @@ use Prim.Native.Nat.{ℕ, zero, suc, _+_, _*_, _/_, _%_, _≤_, _<_}
 use native.Mathlib.Nat.{sub-zero}
 use native.Mathlib.Omega.{arith}
 use lib.ListN.{length, getD, take, replicate}
 use Rattle.rules.specs.Answers.{Answer, DONE, ROOM, OUT, FAULT, at, after, done, first}
 use Rattle.rules.specs.Trees.{Tree, treeOf, rows, count}
 use Rattle.rules.specs.PlainLoop.{window, plain}
 use Rattle.rules.specs.Placing.{place}
 use Rattle.rules.specs.Machine.{Program, Timed, Standing, trace, runs, start}
 use Rattle.rules.specs.Code.{G, programOf, stepsOf}
 use Rattle.rules.specs.Tables.{Graph, graphOf, withTree, headOf, entries, programHead, programIn, padded, left}
 use Rattle.rules.specs.Checks.{headShort, nodesShort, sectionShort, roomCheck, ruleCheck, formCheck, bareCheck, windowCheck, alignCheck, boundsCheck, carryCheck, offsetCheck, longCheck}
 use Rattle.rules.specs.Limits.{longMost}
 use Rattle.rules.specs.Offsets.{rootKept}
 use Rattle.rules.specs.Calls.{programLeft, WithSheet, WithProgram, WithWork, graphTree, graphPlain, graphProgram, placedGraph, placeAnswer, placing, translateAnswer, translating, planAnswer, planning, startAnswer, ended, running}
 use Rattle.rules.specs.declared.program.ProgramHead.{ProgramHead}
-use Rattle.rules.proofs.Lists.{split}
-use Rattle.rules.proofs.Pass.{storeBlock}
-use Rattle.rules.proofs.Passing.{Loop, Passes}
-use Rattle.rules.proofs.Trace.{Cut, runs-cut}
-use Rattle.rules.proofs.Stores.{storesOf, upFrom, planBlocks, HoldsPlan, program-stores, stored-holds-plan, plan-is-stored}
-use Rattle.rules.proofs.Placed.{Unshifted, place-plain, place-passes, place-root}
-use Rattle.rules.proofs.PlacedSize.{place-short}
-use Rattle.rules.proofs.RowLaws.{rows-read-back, padded-rows-read-back}
-use Rattle.rules.proofs.FormLaws.{Formed, first-done, first-is-done, first-skip, refuse-done, neither, passes-formed, formed-count}
-use Rattle.rules.proofs.Checked.{VectorWidth, HeadPasses, loop-from, head-of, graph-passes, graph-bare, graph-unshifted, offset-done, bare-count, long-done}
-use Rattle.rules.proofs.Unrefused.{placed-offset-done, placed-long-done}
-use Rattle.rules.proofs.Handed.{handed-done, handed-out, read-back}
+use Rattle.theory.proofs.Lists.{split}
+use Rattle.theory.proofs.Pass.{storeBlock}
+use Rattle.theory.proofs.Passing.{Loop, Passes}
+use Rattle.theory.proofs.Trace.{Cut, runs-cut}
+use Rattle.theory.proofs.Stores.{storesOf, upFrom, planBlocks, HoldsPlan, program-stores, stored-holds-plan, plan-is-stored}
+use Rattle.theory.proofs.Placed.{Unshifted, place-plain, place-passes, place-root}
+use Rattle.theory.proofs.PlacedSize.{place-short}
+use Rattle.theory.proofs.RowLaws.{rows-read-back, padded-rows-read-back}
+use Rattle.theory.proofs.FormLaws.{Formed, first-done, first-is-done, first-skip, refuse-done, neither, passes-formed, formed-count}
+use Rattle.theory.proofs.Checked.{VectorWidth, HeadPasses, loop-from, head-of, graph-passes, graph-bare, graph-unshifted, offset-done, bare-count, long-done}
+use Rattle.theory.proofs.Unrefused.{placed-offset-done, placed-long-done}
+use Rattle.theory.proofs.Handed.{handed-done, handed-out, read-back}
 
 -- ---- Demand 1
 

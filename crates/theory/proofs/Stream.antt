@@ -12,18 +12,18 @@ use borrow.Author.Tests.{le-leb, leb-true, ltb-true, ltb-false, eqb-true}
 use lib.Dec.{ltb, leb}
 use lib.ListN.{length, take, drop, getD, replicate, length-replicate, List·getD-eq-default, length-take, length-drop}
 use lib.Seq.{getD-take, getD-drop}
 use Rattle.rules.specs.Elements.{toBytes, ofBytes, element, operate, modulus}
 use Rattle.rules.specs.Trees.{Tree, load, splat, op, shift, bytes}
 use Rattle.rules.specs.PlainLoop.{window, value}
 use Rattle.rules.specs.Offsets.{agree, join, offset}
 use Rattle.rules.specs.Vectors.{lanes, vsplat, vop, vshiftpair, blockZero, inside, loaded}
 use Rattle.rules.specs.Code.{beside}
 use Rattle.rules.specs.declared.units.ByteOffset.{ByteOffset}
 use Rattle.rules.specs.declared.nodes.Offset.{Offset}
 use Rattle.rules.specs.declared.nodes.Offset.the-variants.{At, Undefined}
-use Rattle.rules.proofs.Passing.{Loop, LoadPasses, ShiftPasses, Passes}
-use Rattle.rules.proofs.Lists.{split, length-part, part-ext, pair-left, pair-right, length-pair, length-lanes, getD-lanes}
-use Rattle.rules.proofs.Numbers.{length-toBytes, ofBytes-toBytes, toBytes-ofBytes, Bytes, ofBytes-lt, modulus-is, operate-lt, mod-at}
+use Rattle.theory.proofs.Passing.{Loop, LoadPasses, ShiftPasses, Passes}
+use Rattle.theory.proofs.Lists.{split, length-part, part-ext, pair-left, pair-right, length-pair, length-lanes, getD-lanes}
+use Rattle.theory.proofs.Numbers.{length-toBytes, ofBytes-toBytes, toBytes-ofBytes, Bytes, ofBytes-lt, modulus-is, operate-lt, mod-at}
 
 -- ---- the vector that a tree stands for in pass k, over the windows as they are
 

@@ -7,14 +7,14 @@ use native.Mathlib.Nat.{add-assoc, mul-le-mul-right, mod-lt, div-add-mod', div-l
 use native.Mathlib.Omega.{arith}
 use lib.ListN.{length, getD}
 use lib.Seq.{ext-getD, paste, length-paste}
 use Rattle.rules.specs.Elements.{toBytes}
 use Rattle.rules.specs.Trees.{Tree}
 use Rattle.rules.specs.PlainLoop.{value, plain}
 use Rattle.rules.specs.Vectors.{lanes}
-use Rattle.rules.proofs.Passing.{Loop, Passes}
-use Rattle.rules.proofs.Lists.{split, paste-before, paste-in, paste-after, length-lanes, getD-lanes}
-use Rattle.rules.proofs.Numbers.{length-toBytes, div-at, mod-at}
-use Rattle.rules.proofs.Stream.{Kept, kept-reads, planned, value-same}
+use Rattle.theory.proofs.Passing.{Loop, Passes}
+use Rattle.theory.proofs.Lists.{split, paste-before, paste-in, paste-after, length-lanes, getD-lanes}
+use Rattle.theory.proofs.Numbers.{length-toBytes, div-at, mod-at}
+use Rattle.theory.proofs.Stream.{Kept, kept-reads, planned, value-same}
 
 -- the first T planned bytes stand at S, and all else is as it was
 pub record Upto (D S : ℕ) (work table : List ℕ) (t : Tree) (T : ℕ) (m : List ℕ) : Type 0 where

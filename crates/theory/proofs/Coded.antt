@@ -9,13 +9,13 @@ use native.Mathlib.Omega.{arith}
 use lib.Dec.{ltb}
 use lib.ListN.{length, set, length-set, length-append}
 use lib.Seq.{getD-set-same, getD-set-other}
 use Rattle.rules.specs.Trees.{Tree, load, splat, op, shift}
 use Rattle.rules.specs.PlainLoop.{window}
 use Rattle.rules.specs.Vectors.{vsplat, vop, vshiftpair, loaded, blockOf}
 use Rattle.rules.specs.Machine.{Pair, Splat, splatValue, State, reg, write, effect, effectAs}
 use Rattle.rules.specs.Code.{G, beside, pairUp, code}
 use Rattle.rules.specs.declared.program.Instruction.{Instruction}
-use Rattle.rules.proofs.Stream.{paired, vec}
+use Rattle.theory.proofs.Stream.{paired, vec}
 
 pub size-pos : (t : Tree) → 0 < G t
 size-pos (load w a) = omega arith

@@ -8,16 +8,16 @@ use native.Mathlib.Nat.{add-sub-cancel-left, mul-le-mul-right, mul-le-mul-left, 
 use native.Mathlib.Omega.{arith}
 use lib.ListN.{length, getD}
 use lib.Seq.{paste, length-paste}
 use Rattle.rules.specs.Trees.{Tree, bytes}
 use Rattle.rules.specs.Offsets.{offset, rootKept}
 use Rattle.rules.specs.Vectors.{vsplice, blockZero, loaded, stored}
 use Rattle.rules.specs.Code.{fullVectors, restElements}
 use Rattle.rules.specs.declared.nodes.Offset.the-variants.{At}
-use Rattle.rules.proofs.Passing.{Loop, Passes}
-use Rattle.rules.proofs.Lists.{split, paste-before, paste-in, paste-after, splice-left, splice-right, length-splice}
-use Rattle.rules.proofs.Numbers.{lane-low}
-use Rattle.rules.proofs.Stream.{vec, kept-reads, Holds, planned, vec-holds, length-vec, length-loaded, loaded-byte, aligned, stands-right}
-use Rattle.rules.proofs.Plan.{Upto}
+use Rattle.theory.proofs.Passing.{Loop, Passes}
+use Rattle.theory.proofs.Lists.{split, paste-before, paste-in, paste-after, splice-left, splice-right, length-splice}
+use Rattle.theory.proofs.Numbers.{lane-low}
+use Rattle.theory.proofs.Stream.{vec, kept-reads, Holds, planned, vec-holds, length-vec, length-loaded, loaded-byte, aligned, stands-right}
+use Rattle.theory.proofs.Plan.{Upto}
 
 -- a block to store in pass j: new where the plan has bytes, old elsewhere
 pub record Masked (W D n S j : ℕ) (old new v : List ℕ) : Type 0 where

@@ -7,15 +7,15 @@ use mathlib.Core.Bool.{true, false}
 use Prim.Native.Nat.{ℕ, _+_, _*_, _%_, _≤_, _<_}
 use native.Mathlib.Omega.{arith}
 use borrow.Author.Tests.{eqb-true}
 use Rattle.rules.specs.Limits.{bareMost, longMost}
 use Rattle.rules.specs.Trees.{Tree, load, splat, op, shift, bytes, count, shifts}
 use Rattle.rules.specs.Offsets.{agree, join, offset}
 use Rattle.rules.specs.Placing.{toward, loadsTo, meetAt, inputsTo, place}
 use Rattle.rules.specs.Code.{G}
 use Rattle.rules.specs.declared.units.ByteOffset.{ByteOffset}
 use Rattle.rules.specs.declared.nodes.Offset.{Offset}
 use Rattle.rules.specs.declared.nodes.Offset.the-variants.{At, Undefined}
-use Rattle.rules.proofs.Placed.{toward-is, inputs-are, place-is, stripped, Unshifted, unshifted-stripped, loadsTo-stripped, inputsTo-stripped}
+use Rattle.theory.proofs.Placed.{toward-is, inputs-are, place-is, stripped, Unshifted, unshifted-stripped, loadsTo-stripped, inputsTo-stripped}
 
 -- ---- any tree
 

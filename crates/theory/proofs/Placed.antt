@@ -9,16 +9,16 @@ use Prim.Native.Nat.{ℕ, zero, suc, _*_, _/_, _%_, _<_}
 use native.Mathlib.Nat.{mod-lt, mod-mod-of-dvd, dvd-mul-left, zero-mod}
 use borrow.Author.Tests.{eqb-true, eqb-false, eq-eqb}
 use lib.Dec.{eqb}
 use Rattle.rules.specs.Limits.{operations}
 use Rattle.rules.specs.Elements.{modulus, operate}
 use Rattle.rules.specs.Trees.{Tree, load, splat, op, shift, bytes}
 use Rattle.rules.specs.PlainLoop.{value, plain}
 use Rattle.rules.specs.Offsets.{agree, join, offset, rootKept}
 use Rattle.rules.specs.Placing.{shifted, toward, loadsTo, meetAt, inputsTo, loadOffsets, dominant, place}
 use Rattle.rules.specs.declared.nodes.Offset.{Offset}
 use Rattle.rules.specs.declared.nodes.Offset.the-variants.{At, Undefined}
-use Rattle.rules.proofs.Passing.{Loop, LoadPasses, ShiftPasses, Passes}
-use Rattle.rules.proofs.Dominant.{dominant-oftenest}
+use Rattle.theory.proofs.Passing.{Loop, LoadPasses, ShiftPasses, Passes}
+use Rattle.theory.proofs.Dominant.{dominant-oftenest}
 
 -- ---- what each part of a rule puts in
 

@@ -8,25 +8,25 @@ use native.Mathlib.Nat.{zero-add}
 use native.Mathlib.Omega.{arith}
 use borrow.Author.Tests.{eq-eqb, le-ltb}
 use lib.ListN.{length, length-append}
 use Rattle.rules.specs.Limits.{longMost}
 use Rattle.rules.specs.Answers.{done, first}
 use Rattle.rules.specs.Frames.{loadKind, splatKind, opKind, shiftKind}
 use Rattle.rules.specs.Trees.{Tree, load, splat, op, shift, bytes, nodeAt, waiting, top, treeAt, treeOf, rows, count}
 use Rattle.rules.specs.Offsets.{offset, isAt, ruleKept, rootKept}
 use Rattle.rules.specs.Placing.{place}
 use Rattle.rules.specs.Code.{G}
 use Rattle.rules.specs.Tables.{Graph}
 use Rattle.rules.specs.Checks.{bareCheck, alignCheck, offsetRow, offsetCheck, longCheck, formCheck}
 use Rattle.rules.specs.Calls.{graphTree, placedGraph}
 use Rattle.rules.specs.declared.nodes.Offset.{Offset}
 use Rattle.rules.specs.declared.nodes.Offset.the-variants.{At}
-use Rattle.rules.proofs.Lists.{split}
-use Rattle.rules.proofs.RowLaws.{length-rows, waiting-in, rows-read-back}
-use Rattle.rules.proofs.FormLaws.{Formed, Everywhere, first-each, formed-passes, formed-tree-ok}
-use Rattle.rules.proofs.Placed.{Unshifted, Settled, place-root, place-settled}
-use Rattle.rules.proofs.PlacedSize.{place-short}
-use Rattle.rules.proofs.PlacedForm.{place-formed}
-use Rattle.rules.proofs.Checked.{VectorWidth, head-passes, align-done, bare-count, graph-placeable, graph-unshifted}
+use Rattle.theory.proofs.Lists.{split}
+use Rattle.theory.proofs.RowLaws.{length-rows, waiting-in, rows-read-back}
+use Rattle.theory.proofs.FormLaws.{Formed, Everywhere, first-each, formed-passes, formed-tree-ok}
+use Rattle.theory.proofs.Placed.{Unshifted, Settled, place-root, place-settled}
+use Rattle.theory.proofs.PlacedSize.{place-short}
+use Rattle.theory.proofs.PlacedForm.{place-formed}
+use Rattle.theory.proofs.Checked.{VectorWidth, head-passes, align-done, bare-count, graph-placeable, graph-unshifted}
 
 -- ---- what holds everywhere in a tree holds of the node of each of its rows
 

@@ -8,15 +8,15 @@ use native.Mathlib.Nat.{add-zero, mul-le-mul-left, mul-le-mul-right, mod-lt, div
 use native.Mathlib.Omega.{arith}
 use lib.Dec.{ltb, eqb}
 use lib.ListN.{length}
 use Rattle.rules.specs.Trees.{Tree, load, splat, op, shift}
 use Rattle.rules.specs.Vectors.{blockZero, held, blockOf}
 use Rattle.rules.specs.Machine.{Pair, Program, Timed, inPass, passes, trace}
 use Rattle.rules.specs.Code.{G, beside, pairUp, code, fullVectors, restElements, onlySection, prologueSection, bodySection, epilogueSection, bodyOf, epilogueOf, sections, programOf}
 use Rattle.rules.specs.declared.program.Instruction.{Instruction}
-use Rattle.rules.proofs.Passing.{Loop, Passes}
-use Rattle.rules.proofs.Pass.{storeBlock, plan-bytes}
-use Rattle.rules.proofs.Coded.{block-moved}
-use Rattle.rules.proofs.Sections.{no-passes}
+use Rattle.theory.proofs.Passing.{Loop, Passes}
+use Rattle.theory.proofs.Pass.{storeBlock, plan-bytes}
+use Rattle.theory.proofs.Coded.{block-moved}
+use Rattle.theory.proofs.Sections.{no-passes}
 
 -- the blocks that a trace stores into, in its order
 unfoldable pub storesOf : (W : ℕ) → List Timed → List ℕ

@@ -10,10 +10,10 @@ use borrow.Author.Tests.{lt-ltb, le-ltb, ltb-true, ltb-false}
 use lib.Dec.{ltb, eqb}
 use lib.ListN.{length, take, drop, length-append}
 use lib.Seq.{drop-nil}
 use Rattle.rules.specs.Answers.{DONE, OUT, FAULT}
 use Rattle.rules.specs.Machine.{State, sound, effect, effectAs, Program, Timed, inPass, passes, trace, Standing, standing, step, runs}
 use Rattle.rules.specs.declared.program.Instruction.{Instruction}
-use Rattle.rules.proofs.Coded.{execs}
+use Rattle.theory.proofs.Coded.{execs}
 
 -- ---- the length of a trace
 

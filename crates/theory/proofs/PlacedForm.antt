@@ -5,17 +5,17 @@ use mathlib.Core.Bool.{true}
 use Prim.Native.Nat.{ℕ, _*_, _/_, _%_, _≤_, _<_}
 use native.Mathlib.Omega.{arith}
 use borrow.Author.Tests.{eq-eqb, ne-eqb, lt-ltb}
 use Rattle.rules.specs.Limits.{bareMost}
 use Rattle.rules.specs.Ranges.{headOk, shiftOk, rowOk}
 use Rattle.rules.specs.Trees.{Tree, load, splat, op, shift, count}
 use Rattle.rules.specs.Offsets.{offset}
 use Rattle.rules.specs.Placing.{place}
 use Rattle.rules.specs.Tables.{Graph, withTree}
 use Rattle.rules.specs.declared.nodes.Offset.{Offset}
-use Rattle.rules.proofs.Passing.{ShiftPasses}
-use Rattle.rules.proofs.Placed.{stripped, Placeable, placeable-unshifted, Settled, place-stripped, place-settled}
-use Rattle.rules.proofs.PlacedSize.{place-count}
-use Rattle.rules.proofs.FormLaws.{Formed, TreeOk, tree-formed}
+use Rattle.theory.proofs.Passing.{ShiftPasses}
+use Rattle.theory.proofs.Placed.{stripped, Placeable, placeable-unshifted, Settled, place-stripped, place-settled}
+use Rattle.theory.proofs.PlacedSize.{place-count}
+use Rattle.theory.proofs.FormLaws.{Formed, TreeOk, tree-formed}
 
 shift-in-range : (W D f g : ℕ) (child : Offset) → ShiftPasses W D f g child → shiftOk W D f g ≡ true
 unfolding shiftOk

@@ -8,26 +8,26 @@ use native.Mathlib.Omega.{arith}
 use borrow.Author.Tests.{ltb-true, ltb-false, leb-true, leb-false, eqb-true, eqb-false, eq-eqb, lt-ltb, le-ltb, not-true, not-false}
 use lib.Dec.{ltb, leb, eqb}
 use lib.ListN.{length, getD}
 use Rattle.rules.specs.Limits.{windows, operations, bareMost, longMost, elementsMost, addressMost, windowMost}
 use Rattle.rules.specs.Answers.{Answer, DONE, at, refuseIf, first, each, ALIGN, BOUNDS, CARRY, OFFSET}
 use Rattle.rules.specs.Units.{isWidth}
 use Rattle.rules.specs.Elements.{modulus}
 use Rattle.rules.specs.Frames.{loadKind, splatKind, opKind, shiftKind}
 use Rattle.rules.specs.Ranges.{headOk, loadOk, splatOk, opOk, shiftOk, rowOk}
 use Rattle.rules.specs.Trees.{Tree, load, splat, op, shift, bytes, cell, nodeAt, treeAt, treeOf, count, waiting}
 use Rattle.rules.specs.PlainLoop.{window}
 use Rattle.rules.specs.Offsets.{agree, offset, isAt, ruleKept, rootKept}
 use Rattle.rules.specs.Code.{G}
 use Rattle.rules.specs.Vectors.{blockZero}
 use Rattle.rules.specs.Tables.{Graph}
 use Rattle.rules.specs.Checks.{storeLine, line, isLoad, loadWindow, loadAddress, misaligned, lengthOf, beyond, carries, windowOk, bareRow, bareCheck, windowCheck, alignRow, alignCheck, boundsRow, boundsCheck, carryRow, carryCheck, offsetRow, offsetCheck, longCheck}
 use Rattle.rules.specs.declared.units.ByteOffset.{ByteOffset}
 use Rattle.rules.specs.declared.nodes.Offset.{Offset}
 use Rattle.rules.specs.declared.nodes.Offset.the-variants.{At, Undefined}
-use Rattle.rules.proofs.Lists.{and-left, and-right}
-use Rattle.rules.proofs.Passing.{Loop, LoadPasses, ShiftPasses, Passes}
-use Rattle.rules.proofs.Placed.{Bare, Placeable, Unshifted}
-use Rattle.rules.proofs.FormLaws.{formed-count, Formed, first-done, each-done, refuse-done, neither, Everywhere, formed-everywhere, tree-is, TreeOk, formed-tree-ok}
+use Rattle.theory.proofs.Lists.{and-left, and-right}
+use Rattle.theory.proofs.Passing.{Loop, LoadPasses, ShiftPasses, Passes}
+use Rattle.theory.proofs.Placed.{Bare, Placeable, Unshifted}
+use Rattle.theory.proofs.FormLaws.{formed-count, Formed, first-done, each-done, refuse-done, neither, Everywhere, formed-everywhere, tree-is, TreeOk, formed-tree-ok}
 
 -- ---- the width of a vector
 

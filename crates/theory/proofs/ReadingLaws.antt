@@ -9,27 +9,27 @@ use lib.ListN.{length, getD, take, length-take, length-append}
 use lib.Seq.{getD-take}
 use lib.Dec.{ltb, leb, eqb}
 use borrow.Author.Tests.{lt-ltb, le-ltb, ltb-true, ltb-false, leb-false, eqb-true}
 use Rattle.rules.specs.Limits.{vectorBytes, nodesMost}
 use Rattle.rules.specs.Answers.{DONE, ofRead, done, first}
 use Rattle.rules.specs.Digits.{digitRun, spelled}
 use Rattle.rules.specs.Frames.{fieldDigits, frameDigits, fieldsOf, frameOf, frameAt, endKind, headerKind}
 use Rattle.rules.specs.Ranges.{headOk, rowOk, takes}
 use Rattle.rules.specs.Reading.{Sheet, nodeLine, endLine, lineBy, lineAt, refused, follow, linesFrom, fresh, headerLine, sheetBy, sheetOf}
 use Rattle.rules.specs.Tables.{graphOf, padded, left}
 use Rattle.rules.specs.Checks.{headShort, nodesShort, roomCheck, formCheck}
 use Rattle.rules.specs.Calls.{readAnswer, reading, checking}
-use Rattle.rules.proofs.RowLaws.{length-padded}
-use Rattle.rules.proofs.FormLaws.{Rows, rows-none, some-row, rows-front, rows-next, Formed, formed-passes, first-done, refuse-done, neither}
+use Rattle.theory.proofs.RowLaws.{length-padded}
+use Rattle.theory.proofs.FormLaws.{Rows, rows-none, some-row, rows-front, rows-next, Formed, formed-passes, first-done, refuse-done, neither}
 use Rattle.rules.specs.declared.sheet.FieldDigits.{FieldDigits}
 use Rattle.rules.specs.declared.sheet.Fields.{Fields}
 use Rattle.rules.specs.declared.sheet.Frame.{Frame}
 use Rattle.rules.specs.declared.sheet.Frame.the-variants.{Bad, Is}
 use Rattle.rules.specs.declared.sheet.Row.{Row}
 use Rattle.rules.specs.declared.sheet.Cursor.{Cursor}
 use Rattle.rules.specs.declared.sheet.LineStep.{LineStep}
 use Rattle.rules.specs.declared.sheet.LineStep.the-variants.{Stop, End, Node}
 use Rattle.rules.specs.declared.answers.ReadAnswer.{ReadAnswer}
 use Rattle.rules.specs.declared.answers.ReadAnswer.the-variants.{Done, Room, Line, Range, Shape}
 
 -- ---- a line takes at most 27 bytes
 

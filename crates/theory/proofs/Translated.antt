@@ -8,20 +8,20 @@ use native.Mathlib.Omega.{arith}
 use borrow.Author.Tests.{lt-ltb, le-leb, ltb-false}
 use lib.Dec.{ltb, leb}
 use lib.ListN.{length, length-append}
 use Rattle.rules.specs.Limits.{registers, windows, operations, longMost}
 use Rattle.rules.specs.Elements.{modulus}
 use Rattle.rules.specs.Trees.{Tree, load, splat, op, shift}
 use Rattle.rules.specs.Vectors.{blockZero, held, blockOf, inside}
 use Rattle.rules.specs.Machine.{Load, Splat, Op, Pair, Splice, Store, soundAs, sound, splatValue, Program, inPass, passes, trace}
 use Rattle.rules.specs.Code.{G, beside, pairUp, code, fullVectors, restElements, onlySection, prologueSection, bodySection, epilogueSection, bodyOf, epilogueOf, sections, programOf, epilogueSteps, stepsBy, stepsOf}
 use Rattle.rules.specs.declared.program.Instruction.{Instruction}
-use Rattle.rules.proofs.Lists.{Every, none, more, every-append}
-use Rattle.rules.proofs.Passing.{Loop, Passes}
-use Rattle.rules.proofs.Pass.{block-inside, plan-bytes}
-use Rattle.rules.proofs.Coded.{size-pos, block-moved, splat-value, length-code}
-use Rattle.rules.proofs.Trace.{length-trace}
-use Rattle.rules.proofs.Sound.{Sound, every-pass, every-passes}
-use Rattle.rules.proofs.Sections.{no-passes}
+use Rattle.theory.proofs.Lists.{Every, none, more, every-append}
+use Rattle.theory.proofs.Passing.{Loop, Passes}
+use Rattle.theory.proofs.Pass.{block-inside, plan-bytes}
+use Rattle.theory.proofs.Coded.{size-pos, block-moved, splat-value, length-code}
+use Rattle.theory.proofs.Trace.{length-trace}
+use Rattle.theory.proofs.Sound.{Sound, every-pass, every-passes}
+use Rattle.theory.proofs.Sections.{no-passes}
 
 -- ---- the formula
 

@@ -10,16 +10,16 @@ use native.Mathlib.Numerals.{add-one}
 use native.Mathlib.Omega.{arith}
 use lib.ListN.{length, length-append}
 use borrow.Author.Tests.{le-ltb, ltb-false, not-false, eqb-true}
 use Rattle.rules.specs.Limits.{nodesMost}
 use Rattle.rules.specs.Answers.{Answer, DONE, at, done, refuseIf, first, each, orElse}
 use Rattle.rules.specs.Frames.{loadKind, splatKind, opKind, shiftKind}
 use Rattle.rules.specs.Ranges.{headOk, rowOk, takes}
 use Rattle.rules.specs.Trees.{Tree, load, splat, op, shift, cell, nodeOf, nodeAt, push, waiting, top, treeAt, treeOf, rows, count}
 use Rattle.rules.specs.declared.nodes.Node.{Node}
 use Rattle.rules.specs.declared.nodes.Node.the-variants.{Load, Splat, Op, Shift}
 use Rattle.rules.specs.Tables.{Graph, withTree}
 use Rattle.rules.specs.Checks.{waits, line, storeLine, headCheck, rangeCheck, takesCheck, rowCheck, endCheck, formCheck}
-use Rattle.rules.proofs.RowLaws.{length-rows, cell-front, cell-seam, waits-front, length-waiting}
+use Rattle.theory.proofs.RowLaws.{length-rows, cell-front, cell-seam, waits-front, length-waiting}
 
 -- ---- the first rows of a table
 
