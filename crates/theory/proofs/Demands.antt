@@ -9,6 +9,7 @@
 -- the formula's steps, stores into the blocks that hold a byte of the plan and no other, each once, and leaves the plain loop's
 -- memory (`translated-runs`, `runs-never-fault`).
 use mathlib.Core.Path.{_≡_, refl, sym, ap, _∙_}
+use mathlib.Core.Logic.{_≢_}
 use mathlib.Core.Bool.{Bool, true, false, _||_}
 use mathlib.Core.List.{List, [], _∷_, _++_, append-nil}
 use Prim.Native.Nat.{ℕ, zero, suc, _+_, _*_, _/_, _%_, _≤_, _<_}
@@ -25,7 +26,7 @@ use Rattle.rules.specs.Tables.{Graph, graphOf, withTree, headOf, entries, progr
 use Rattle.rules.specs.Checks.{headShort, nodesShort, sectionShort, roomCheck, ruleCheck, formCheck, bareCheck, windowCheck, alignCheck, boundsCheck, carryCheck, offsetCheck, longCheck}
 use Rattle.rules.specs.Limits.{longMost}
 use Rattle.rules.specs.Offsets.{rootKept}
-use Rattle.rules.specs.Calls.{programLeft, WithSheet, WithProgram, WithWork, graphTree, graphPlain, graphProgram, placedGraph, placeAnswer, placing, translateAnswer, translating, planAnswer, planning, startAnswer, ended, running}
+use Rattle.rules.specs.Calls.{programLeft, WithSheet, WithProgram, WithWork, graphTree, graphPlain, graphProgram, placedGraph, placeAnswer, placing, translateAnswer, translating, planAnswer, planning, workLeft, startAnswer, ended, started, running}
 use Rattle.rules.specs.declared.program.ProgramHead.{ProgramHead}
 use Rattle.theory.proofs.Lists.{split}
 use Rattle.theory.proofs.Pass.{storeBlock}
@@ -35,7 +36,7 @@ use Rattle.theory.proofs.Stores.{storesOf, upFrom, planBlocks, HoldsPla
 use Rattle.theory.proofs.Placed.{Unshifted, place-plain, place-passes, place-root}
 use Rattle.theory.proofs.PlacedSize.{place-short}
 use Rattle.theory.proofs.RowLaws.{rows-read-back, padded-rows-read-back}
-use Rattle.theory.proofs.FormLaws.{Formed, first-done, first-is-done, first-skip, refuse-done, neither, passes-formed, formed-count}
+use Rattle.theory.proofs.FormLaws.{Formed, each-check-done, first-is-done, first-skip, refuse-done, neither, passes-formed, formed-count}
 use Rattle.theory.proofs.Checked.{VectorWidth, HeadPasses, loop-from, head-of, graph-passes, graph-bare, graph-unshifted, offset-done, bare-count, long-done}
 use Rattle.theory.proofs.Unrefused.{placed-offset-done, placed-long-done}
 use Rattle.theory.proofs.Handed.{handed-done, handed-out, read-back}
@@ -55,6 +56,22 @@ unfolding padded
 refusal-zero zero before made h = absurd (omega arith)
 refusal-zero (suc zero) before made h = absurd (omega arith)
 refusal-zero (suc (suc number)) before made h = rw sub-zero
+
+-- "No refusal up to 11 changes a window": of the plain loop, and of a run that could not start
+pub refusal-keeps-work : (number : ℕ) (before then : List ℕ) → number ≢ DONE → workLeft number before then ≡ before
+refusal-keeps-work zero before then ne = absurd (ne refl)
+refusal-keeps-work (suc number) before then ne = refl
+
+not-started : (number : ℕ) (answer : Answer) (work : List ℕ) (then : WithWork) → number ≢ DONE
+    → started number answer work then ≡ record { answer = answer; work = work }
+not-started zero answer work then ne = absurd (ne refl)
+not-started (suc number) answer work then ne = refl
+
+pub unstarted-keeps-work : (W : ℕ) (h : ProgramHead) (prologue body epilogue : List ℕ) (budget : ℕ) (work table : List ℕ)
+    → let answer = startAnswer W h prologue body epilogue (length work) (length table) in
+    answer .number ≢ DONE → running W h prologue body epilogue budget work table ≡ record { answer = answer; work = work }
+unfolding running
+unstarted-keeps-work W h prologue body epilogue budget work table ne = not-started _ _ work _ ne
 
 -- for every program, budget and window: a run that could start is where its first instructions led, as many as its steps, and it
 -- stopped there for the paper's reason
@@ -136,24 +153,18 @@ module _ (W : ℕ) (v : VectorWidth W) (head nodes work table prologue body epil
   unfolding translating windowCheck
   translated-runs e =
       let g = graphOf head nodes in
-      let c₁ = first-done _ _ e in
-      let c₂ = first-done _ _ (c₁ .1) in
-      let c₃ = first-done _ _ (c₂ .1) in
-      let c₄ = first-done _ _ (c₃ .1) in
-      let c₅ = first-done _ _ (c₄ .1) in
-      let c₆ = first-done _ _ (c₅ .1) in
-      let c₇ = first-done _ _ (c₆ .1) in
-      let c₈ = first-done _ _ (c₇ .1) in
-      let f : Formed W g = passes-formed W g (c₂ .0) in
+      -- 0 ROOM, 1 form, 2 WINDOW, 3 ALIGN, 4 BOUNDS, 5 CARRY, 6 OFFSET, 7 LONG
+      let c = each-check-done _ e in
+      let f : Formed W g = passes-formed W g (c 1) in
       rw (first-is-done _ e)
       (program-runs W v (g .D) (g .n) (g .S) work table (graphTree g) (head-of W v g f work table)
-      (loop-from W v g f work table byte (c₃ .0) (c₄ .0) (c₅ .0))
-      (graph-passes W v g f work table (c₄ .0) (c₅ .0) (c₆ .0) (c₇ .0))
-      (offset-done g W (c₇ .0) .1)
-      (long-done (graphTree g) (c₈ .0))
-      (first-is-done _ (c₃ .0))
+      (loop-from W v g f work table byte (c 2) (c 3) (c 4))
+      (graph-passes W v g f work table (c 3) (c 4) (c 5) (c 6))
+      (offset-done g W (c 6) .1)
+      (long-done (graphTree g) (c 7))
+      (first-is-done _ (c 2))
       prologue body epilogue
-      (sections-roomy (headShort head || nodesShort nodes) _ _ _ (refuse-done _ 0 0 (c₁ .0))))
+      (sections-roomy (headShort head || nodesShort nodes) _ _ _ (refuse-done _ 0 0 (c 0))))
 
 -- ---- Demand 2
 
@@ -172,25 +183,19 @@ module _ (W : ℕ) (v : VectorWidth W) (rule : ℕ) (head nodes work table prolo
   unfolding planning windowCheck
   planned-runs e =
       let g = graphOf head nodes in
-      let c₁ = first-done _ _ e in
-      let c₂ = first-done _ _ (c₁ .1) in
-      let c₃ = first-done _ _ (c₂ .1) in
-      let c₄ = first-done _ _ (c₃ .1) in
-      let c₅ = first-done _ _ (c₄ .1) in
-      let c₆ = first-done _ _ (c₅ .1) in
-      let c₇ = first-done _ _ (c₆ .1) in
-      let c₈ = first-done _ _ (c₇ .1) in
-      let f : Formed W g = passes-formed W g (c₃ .0) in
-      let c : Loop W (g .D) (g .n) (g .S) work table = loop-from W v g f work table byte (c₅ .0) (c₆ .0) (c₇ .0) in
-      let u : Unshifted (graphTree g) = graph-unshifted W v g f work table (c₄ .0) in
+      -- 0 ROOM, 1 the rule, 2 form, 3 BARE, 4 WINDOW, 5 ALIGN, 6 BOUNDS, 7 CARRY
+      let c = each-check-done _ e in
+      let f : Formed W g = passes-formed W g (c 2) in
+      let l : Loop W (g .D) (g .n) (g .S) work table = loop-from W v g f work table byte (c 4) (c 5) (c 6) in
+      let u : Unshifted (graphTree g) = graph-unshifted W v g f work table (c 3) in
       rw (first-is-done _ e, placed-tree W rule g, ← (place-plain (g .D) (g .S) work table W rule (graphTree g) (g .n)))
-      (program-runs W v (g .D) (g .n) (g .S) work table (place W (g .S) rule (graphTree g)) (head-of W v g f work table) c
-      (place-passes W (g .D) (g .n) (g .S) work table c rule (graphTree g) (graph-bare W v g f work table (c₄ .0) (c₆ .0) (c₇ .0) (c₈ .0)))
+      (program-runs W v (g .D) (g .n) (g .S) work table (place W (g .S) rule (graphTree g)) (head-of W v g f work table) l
+      (place-passes W (g .D) (g .n) (g .S) work table l rule (graphTree g) (graph-bare W v g f work table (c 3) (c 5) (c 6) (c 7)))
       (place-root W (g .S) rule (graphTree g) u)
-      (place-short W (g .S) rule (graphTree g) u (bare-count W g f (c₄ .0)))
-      (first-is-done _ (c₅ .0))
+      (place-short W (g .S) rule (graphTree g) u (bare-count W g f (c 3)))
+      (first-is-done _ (c 4))
       prologue body epilogue
-      (sections-roomy (headShort head || nodesShort nodes) _ _ _ (refuse-done _ 0 0 (c₁ .0))))
+      (sections-roomy (headShort head || nodesShort nodes) _ _ _ (refuse-done _ 0 0 (c 0))))
 
   -- the tables of a graph with a tree's rows
   tables-run : (g : Graph) (t : Tree) (headLen nodesLen : ℕ)
@@ -239,13 +244,8 @@ planned-unrefused W v rule head nodes workLen tableLen prologue body epilogue =
     let g = graphOf head nodes in
     first-skip (_ ∷ _ ∷ _ ∷ _ ∷ _ ∷ _ ∷ _ ∷ _ ∷ []) (offsetCheck W (placedGraph W rule g) ∷ longCheck (graphTree (placedGraph W rule g)) ∷ [])
     (λ e.
-    let c₁ = first-done _ _ e in
-    let c₂ = first-done _ _ (c₁ .1) in
-    let c₃ = first-done _ _ (c₂ .1) in
-    let c₄ = first-done _ _ (c₃ .1) in
-    let c₅ = first-done _ _ (c₄ .1) in
-    let c₆ = first-done _ _ (c₅ .1) in
-    let f : Formed W g = passes-formed W g (c₃ .0) in
-    let o : offsetCheck W (placedGraph W rule g) ≡ done = placed-offset-done W v g f rule (c₄ .0) (c₆ .0) in
-    let l : longCheck (graphTree (placedGraph W rule g)) ≡ done = rw (placed-tree W rule g) (placed-long-done W v g f rule (c₄ .0) (c₆ .0)) in
+    let c = each-check-done _ e in
+    let f : Formed W g = passes-formed W g (c 2) in
+    let o : offsetCheck W (placedGraph W rule g) ≡ done = placed-offset-done W v g f rule (c 3) (c 5) in
+    let l : longCheck (graphTree (placedGraph W rule g)) ≡ done = rw (placed-tree W rule g) (placed-long-done W v g f rule (c 3) (c 5)) in
     both-done (offsetCheck W (placedGraph W rule g)) (longCheck (graphTree (placedGraph W rule g))) o l)

@@ -8,7 +8,7 @@ use mathlib.Core.List.{List, [], _∷_, _++_, append-assoc}
 use native.Mathlib.Nat.{eq-or-lt-of-le, le-of-suc-le-suc}
 use native.Mathlib.Numerals.{add-one}
 use native.Mathlib.Omega.{arith}
-use lib.ListN.{length, length-append}
+use lib.ListN.{length, getD, length-append}
 use borrow.Author.Tests.{le-ltb, ltb-false, not-false, eqb-true}
 use Rattle.rules.specs.Limits.{nodesMost}
 use Rattle.rules.specs.Answers.{Answer, DONE, at, done, refuseIf, first, each, orElse}
@@ -112,6 +112,12 @@ first-done answer later = go (answer .number) refl
         → (answer .number ≡ DONE) × (first later .number ≡ DONE)
     go zero e h = (e, h)
     go (suc number) e h = absurd (omega arith)
+
+-- the checks of a call that answers done, by their place in its list
+pub each-check-done : (checks : List Answer) → first checks .number ≡ DONE → (k : ℕ) → getD checks k done .number ≡ DONE
+each-check-done [] h k = refl
+each-check-done (answer ∷ later) h zero = first-done answer later h .0
+each-check-done (answer ∷ later) h (suc k) = each-check-done later (first-done answer later h .1) k
 
 -- an answer whose number is 0 is done
 pub first-is-done : (l : List Answer) → first l .number ≡ DONE → first l ≡ done

@@ -20,4 +20,5 @@ pub mod PlacedForm
 pub mod Checked
 pub mod Handed
 pub mod Unrefused
+pub mod AnswerLaws
 pub mod Demands
