@@ -1,9 +1,10 @@
--- A translated program is sound in every pass, whatever the windows hold, and its trace has exactly the formula's instructions.
+-- A translated program: its trace has exactly the formula's instructions, instruction k of a section writes register k, and every
+-- instruction is sound in its pass, whatever the windows hold.
 use mathlib.Core.Path.{_≡_, refl, sym, ap, _∙_}
 use mathlib.Core.Bool.{Bool, true, false, cond, _&&_}
-use mathlib.Core.List.{List, [], _∷_, _++_}
+use mathlib.Core.List.{List, [], _∷_, _++_, append-assoc}
 use Prim.Native.Nat.{ℕ, zero, suc, _+_, _-_, _*_, _/_, _%_, _^_, _≤_, _<_}
-use native.Mathlib.Nat.{mul-le-mul-left, mul-le-mul-right, mod-lt}
+use native.Mathlib.Nat.{zero-add, mul-le-mul-left, mul-le-mul-right, mod-lt}
 use native.Mathlib.Omega.{arith}
 use borrow.Author.Tests.{lt-ltb, le-leb, ltb-false}
 use lib.Dec.{ltb, leb}
@@ -62,6 +63,78 @@ module _ (W S : ℕ) (t : Tree) where
 pub length-program : (W D n S : ℕ) (t : Tree) → length (trace (programOf W D n S t)) ≡ stepsOf W D n S t
 unfolding programOf stepsOf
 length-program W D n S t = length-sections W S t D n (fullVectors W D n S) (restElements W D n S)
+
+-- ---- "instruction k of a translated section, from 0, writes register k, and a store writes none"
+
+-- instructions that write the registers from r on, one each
+abbrev pub Numbered : ℕ → List Instruction → Type 0
+Numbered r [] = Unit {0}
+Numbered r (i ∷ is) = (i .destination ≡ r) × Numbered (suc r) is
+
+numbered-append : (r : ℕ) (is ks : List Instruction) → Numbered r is → Numbered (r + length is) ks → Numbered r (is ++ ks)
+numbered-append r [] ks h k = let e : r + 0 ≡ r = omega arith in rw e at k
+numbered-append r (i ∷ is) ks h k =
+    let e : r + suc (length is) ≡ suc r + length is = omega arith in
+    (h .0, numbered-append (suc r) is ks (h .1) (rw e at k))
+
+pair-up-destination : (W f g d x y : ℕ) → pairUp W f g d x y .destination ≡ d
+unfolding pairUp
+pair-up-destination W f g d x y = go (ltb g f)
+  where
+    go : (b : Bool) → cond b (Pair d x y (f - g)) (Pair d y x (W - (g - f))) .destination ≡ d
+    go true = refl
+    go false = refl
+
+code-numbered : (W : ℕ) (t : Tree) (k r : ℕ) → Numbered r (code W t k r)
+unfolding code
+code-numbered W (load w a) k r = (refl, tt)
+code-numbered W (splat v) k r = (refl, tt)
+code-numbered W (op o s t) k r =
+    numbered-append r (code W s k r) _ (code-numbered W s k r)
+    (rw (length-code W s k r)
+    (numbered-append (r + G s) (code W t k (r + G s)) _ (code-numbered W t k (r + G s)) (rw (length-code W t k (r + G s)) (refl, tt))))
+code-numbered W (shift f g t) k r =
+    numbered-append r (code W t k r) _ (code-numbered W t k r)
+    (rw (length-code W t k r)
+    (numbered-append (r + G t) (code W t (beside f g k) (r + G t)) _ (code-numbered W t (beside f g k) (r + G t))
+    (rw (length-code W t (beside f g k) (r + G t)) (pair-up-destination W f g _ _ _, tt))))
+
+-- a section is instructions that do, and then one store
+pub record NumberedSection (is : List Instruction) : Type 0 where
+  pub writes : List Instruction
+  pub source : ℕ
+  pub address : ℕ
+  pub parts : is ≡ writes ++ (Store source address ∷ [])
+  pub numbered : Numbered 0 writes
+
+module _ (W S : ℕ) (t : Tree) where
+  then-store : (rest : List Instruction) (x : ℕ) → Numbered (G t) rest
+      → NumberedSection (code W t (blockZero W) 0 ++ (rest ++ (Store x (held W S) ∷ [])))
+  then-store rest x h = record {
+    writes = code W t (blockZero W) 0 ++ rest;
+    source = x;
+    address = held W S;
+    parts = sym (append-assoc (code W t (blockZero W) 0) rest _);
+    numbered =
+        numbered-append 0 (code W t (blockZero W) 0) rest (code-numbered W t (blockZero W) 0)
+        (rw (length-code W t (blockZero W) 0, zero-add) h);
+  }
+
+  pub only-numbered : (D n : ℕ) → NumberedSection (onlySection W S t D n)
+  unfolding onlySection
+  only-numbered D n = then-store (_ ∷ _ ∷ _ ∷ []) (G t + 2) (refl, (omega arith, (omega arith, tt)))
+
+  pub prologue-numbered : NumberedSection (prologueSection W S t)
+  unfolding prologueSection
+  prologue-numbered = then-store (_ ∷ _ ∷ []) (G t + 1) (refl, (omega arith, tt))
+
+  pub body-numbered : NumberedSection (bodySection W S t)
+  unfolding bodySection
+  body-numbered = then-store [] (G t - 1) tt
+
+  pub epilogue-numbered : (D e : ℕ) → NumberedSection (epilogueSection W S t D e)
+  unfolding epilogueSection
+  epilogue-numbered D e = then-store (_ ∷ _ ∷ []) (G t + 1) (refl, (omega arith, tt))
 
 -- ---- soundness
 
