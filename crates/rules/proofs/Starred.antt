@@ -3,14 +3,19 @@
 use Prim.Native.Nat.{ℕ}
 use mathlib.Core.Path.{_≡_, refl}
 use mathlib.Core.List.{List, [], _∷_, map}
+use lib.ListN.{replicate}
 use Rattle.rules.specs.Limits.{vectorBytes}
 use Rattle.rules.specs.Answers.{Answer, first}
 use Rattle.rules.specs.Elements.{operate, modulus, negative, signedLess, element}
 use Rattle.rules.specs.Vectors.{vop}
 use Rattle.rules.specs.Code.{fullVectors, restElements}
-use Rattle.rules.specs.Trees.{Tree, load, rows, count}
-use Rattle.rules.specs.Tables.{Graph}
-use Rattle.rules.specs.Checks.{boundsCheck, carryCheck}
+use Rattle.rules.specs.Units.{isWidth}
+use Rattle.rules.specs.Ranges.{headOk, loadOk, splatOk, opOk, shiftOk, rowOk, takes}
+use Rattle.rules.specs.Trees.{load, nodeAt, waiting, treeAt, treeOf, rows, count}
+use Rattle.rules.specs.Placing.{toward, loadsTo, place}
+use Rattle.rules.specs.Tables.{padded}
+use Rattle.rules.specs.Checks.{waits, formCheck, bareCheck, windowCheck, alignCheck, boundsCheck, carryCheck, offsetCheck, longCheck}
+use Rattle.rules.specs.Calls.{planAnswer}
 
 pub record Case : Type 0 where
   pub computed : List ℕ
@@ -41,17 +46,19 @@ split D c n F e = record { computed = fullVectors vectorBytes D n c ∷ restElem
 abbrev judged : Answer → (number place : ℕ) → Case
 judged a number place = record { computed = a .number ∷ a .place ∷ []; paper = number ∷ place ∷ [] }
 
--- the loop that stores one load
-abbrev copying : (D n S window address : ℕ) → Graph
-copying D n S w a = record { D = D; n = n; S = S; N = count (load w a); nodes = rows (load w a) }
+-- the answer of the one-step call, by EAGER, to the loop that stores one load
+abbrev copying : (D n S window address : ℕ) → (workLen tableLen : ℕ) → Answer
+copying D n S w a workLen tableLen =
+    planAnswer vectorBytes 1 (D ∷ n ∷ S ∷ count (load w a) ∷ replicate 6 0) (padded 192 (rows (load w a))) workLen tableLen (replicate 6144 0)
+    (replicate 6144 0) (replicate 6144 0)
 
 -- a copy within work, from A to S
 abbrev carried : (D n S A : ℕ) → (number place : ℕ) → Case
-carried D n S A = judged (carryCheck (copying D n S 0 A))
+carried D n S A = judged (copying D n S 0 A 64 0)
 
 -- a copy to S, judged by the lengths of the two windows
 abbrev bounded : (D n S window address : ℕ) → (workLen tableLen : ℕ) → (number place : ℕ) → Case
-bounded D n S w a workLen tableLen = judged (boundsCheck (copying D n S w a) workLen tableLen)
+bounded D n S w a workLen tableLen = judged (copying D n S w a workLen tableLen)
 
 pub starred : List Case
 starred =
@@ -94,5 +101,7 @@ starred =
     ∷ []
 
 pub starred-hold : map (λ c. c .computed) starred ≡ map (λ c. c .paper) starred
-unfolding starred operate modulus negative signedLess element vop carryCheck boundsCheck first
+unfolding starred operate modulus negative signedLess element vop first waits formCheck bareCheck windowCheck alignCheck boundsCheck
+    carryCheck offsetCheck longCheck padded headOk isWidth rowOk loadOk splatOk opOk shiftOk takes nodeAt waiting treeAt treeOf place
+    toward loadsTo
 starred-hold = refl

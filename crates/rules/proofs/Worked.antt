@@ -20,11 +20,11 @@ use Rattle.rules.specs.PlainLoop.{value, plain}
 use Rattle.rules.specs.Offsets.{offset, rootKept}
 use Rattle.rules.specs.Placing.{toward, loadsTo, inputsTo, dominant, place}
 use Rattle.rules.specs.Vectors.{vsplat, vop, vshiftpair, vsplice, blockZero, inside, loaded, stored}
-use Rattle.rules.specs.Machine.{soundAs, effectAs, inPass, passes, trace, step, runs, blank}
+use Rattle.rules.specs.Machine.{fieldsAs, reachesAs, effectAs, inPass, passes, trace, step, runs, blank}
 use Rattle.rules.specs.Code.{G, beside, pairUp, code, onlySection, prologueSection, bodySection, epilogueSection, sections, programOf, stepsOf}
 use Rattle.rules.specs.Tables.{Graph, padded, noProgram}
 use Rattle.rules.specs.Checks.{waits, ruleCheck, formCheck, bareCheck, windowCheck, alignCheck, boundsCheck, carryCheck, offsetCheck, longCheck}
-use Rattle.rules.specs.Calls.{WithProgram, WithWork, reading, checking, planning, looping, running}
+use Rattle.rules.specs.Calls.{WithProgram, WithWork, reading, checking, offsetChecking, placing, translating, planning, looping, running}
 use Rattle.rules.specs.declared.program.ProgramHead.{ProgramHead}
 use Rattle.rules.specs.declared.nodes.Offset.the-variants.{At, Undefined}
 use Rattle.rules.specs.declared.answers.ReadAnswer.the-variants.{Done, Line, Range, Shape}
@@ -39,11 +39,11 @@ the-reader = tt
 
 -- the calls, from a table to a run's memory
 the-calls : Unit {0}
-unfolding reading planning looping running checking formCheck bareCheck windowCheck alignCheck boundsCheck carryCheck
+unfolding reading planning placing translating looping running checking offsetChecking formCheck bareCheck windowCheck alignCheck boundsCheck carryCheck
     offsetCheck longCheck waits first headOk isWidth rowOk loadOk splatOk opOk shiftOk modulus takes padded treeOf treeAt
     waiting nodeAt place toward loadsTo inputsTo dominant programOf stepsOf sections onlySection prologueSection bodySection
     epilogueSection code beside pairUp plain value element operate negative signedLess runs step trace passes inPass blank
-    soundAs effectAs vsplat vop vshiftpair vsplice blockZero inside loaded stored
+    fieldsAs reachesAs effectAs vsplat vop vshiftpair vsplice blockZero inside loaded stored
 the-calls = tt
 
 -- ---- the printed sheet
@@ -403,6 +403,13 @@ lessFive = record { D = 2; n = 4; S = 6; tree = op 1 (load 1 2) (splat 5); work 
 abbrev carrying : Loop
 carrying = record { D = 1; n = 3; S = 1; tree = load 0 0; work = 5 ∷ drop 1 (upTo 16); table = [] }
 
+-- a shift from 2 to 0, and two elements stored past the end of work
+abbrev notBare : Loop
+notBare = record { D = 2; n = 2; S = 0; tree = shift 2 0 (load 0 2); work = []; table = [] }
+
+abbrev notBounded : Loop
+notBounded = record { D = 2; n = 2; S = 14; tree = splat 5; work = upTo 16; table = [] }
+
 -- "On done the unused entries of output tables are zero. ROOM leaves tables unchanged; 2 to 11 leave the lent output tables all
 -- zero.": tables of 7 at first, and for ROOM the node table one entry short
 pub tables-after-each-kind-of-answer :
@@ -416,6 +423,25 @@ pub tables-after-each-kind-of-answer :
     ≡ record { answer = at ROOM 0; head = replicate 10 7; nodes = replicate 191 7 })
     × (reading [] (replicate 10 7) (replicate 192 7)
     ≡ record { answer = at LINE 1; head = replicate 10 0; nodes = replicate 192 0 })
+    -- the printed sheet by DOMINANT; and a sheet that is not bare
+    × (placing vectorBytes 3 (sheetOf printed .head ++ replicate 6 0) (padded 192 (sheetOf printed .nodes)) (replicate 10 7) (replicate 192 7)
+    ≡ record {
+      answer = done;
+      head = 2 ∷ 100 ∷ 0x0206 ∷ 7 ∷ replicate 6 0;
+      nodes =
+          (1 ∷ 1 ∷ 0x0002 ∷ [])
+          ++ (1 ∷ 0 ∷ 0x000A ∷ [])
+          ++ (4 ∷ 10 ∷ 2 ∷ [])
+          ++ (3 ∷ 0 ∷ 0 ∷ [])
+          ++ (1 ∷ 0 ∷ 0x0102 ∷ [])
+          ++ (3 ∷ 0 ∷ 0 ∷ [])
+          ++ (4 ∷ 2 ∷ 6 ∷ [])
+          ++ replicate 171 0;
+    })
+    × (placing vectorBytes 3 (headTable notBare) (nodeTable notBare) (replicate 10 7) (replicate 192 7)
+    ≡ record { answer = at BARE 3; head = replicate 10 0; nodes = replicate 192 0 })
+    -- a plain loop that is refused stores nothing
+    × (looped notBounded ≡ record { answer = at BOUNDS 1; work = upTo 16 })
     × (planned lessFive 1
     ≡ record {
       answer = done;
@@ -445,14 +471,83 @@ pub tables-after-each-kind-of-answer :
       epilogue = replicate 6144 0;
     })
 unfolding the-reader the-calls
-tables-after-each-kind-of-answer = (refl, refl, refl, refl, refl)
+tables-after-each-kind-of-answer = (refl, refl, refl, refl, refl, refl, refl, refl)
 
--- "from the window as it then stands": the plain loop carries byte 0 along. Vectors cannot, and the one-step call refuses
-pub carrying-loop-is-looped-and-not-planned :
-    (looped carrying ≡ record { answer = done; work = 5 ∷ 5 ∷ 5 ∷ 5 ∷ drop 4 (upTo 16) })
-    × (planned carrying 1 .answer ≡ at CARRY 2)
+-- ---- which of two faults a call names
+
+-- two elements of two bytes stored at S, in the tables of a call
+abbrev twoAt : (S : ℕ) → Tree → Loop
+twoAt S t = record { D = 2; n = 2; S = S; tree = t; work = []; table = [] }
+
+-- the same with a D that is no width
+abbrev noWidth : Loop
+noWidth = record { D = 3; n = 2; S = 0; tree = load 0 0; work = []; table = [] }
+
+-- the answers of the calls to a loop's tables, over windows of these lengths
+abbrev placedAnswer : Loop → (rule placedEntries : ℕ) → Answer
+placedAnswer l rule entries = placing vectorBytes rule (headTable l) (nodeTable l) (replicate 10 0) (replicate entries 0) .answer
+
+abbrev loopedAnswer : Loop → (workLen tableLen : ℕ) → Answer
+loopedAnswer l workLen tableLen = looping vectorBytes (headTable l) (nodeTable l) (replicate workLen 0) (replicate tableLen 0) .answer
+
+abbrev translatedAnswer : Loop → (workLen sectionEntries : ℕ) → Answer
+translatedAnswer l workLen entries =
+    translating vectorBytes (headTable l) (nodeTable l) workLen 16 (replicate 6144 0) (replicate entries 0) (replicate 6144 0) .answer
+
+abbrev offsetAnswer : Loop → (nodeEntries : ℕ) → Answer
+offsetAnswer l entries = offsetChecking vectorBytes (headTable l) (take entries (nodeTable l))
+
+-- "Then, in order, placing gives 5 and 7; the plain loop 6 to 8; translating 6 to 11": each row but the last of its call has two
+-- faults, and the earlier is named. "From the window as it then stands": the plain loop carries byte 0 along, and vectors cannot
+pub calls-name-the-first-fault :
+    (placedAnswer noWidth 4 191
+    ∷ placedAnswer noWidth 4 192
+    ∷ placedAnswer (twoAt 0 (shift 2 2 (load 0 2))) 3 192
+    ∷ placedAnswer (twoAt 3 (shift 2 0 (load 0 2))) 3 192
+    ∷ placedAnswer (twoAt 3 (load 0 5)) 3 192
+    ∷ placedAnswer (twoAt 2 (load 0 5)) 3 192
+    ∷ placedAnswer (twoAt 2 (load 0 4)) 3 192
+    ∷ []
+    ≡ at ROOM 0 ∷ at RANGE 0 ∷ at RANGE 3 ∷ at BARE 3 ∷ at ALIGN 1 ∷ at ALIGN 2 ∷ done ∷ [])
+    × (loopedAnswer noWidth 24 24
+    ∷ loopedAnswer (twoAt 15 (load 0 0)) 24 24
+    ∷ loopedAnswer (twoAt 15 (load 0 0)) 16 24
+    ∷ loopedAnswer (twoAt 15 (load 0 0)) 16 16
+    ∷ loopedAnswer (twoAt 14 (load 0 14)) 16 16
+    ∷ loopedAnswer (twoAt 12 (load 0 14)) 16 16
+    ∷ loopedAnswer (twoAt 12 (load 0 12)) 16 16
+    ∷ []
+    ≡ at RANGE 1 ∷ at WINDOW 0 ∷ at WINDOW 1 ∷ at ALIGN 1 ∷ at BOUNDS 1 ∷ at BOUNDS 2 ∷ done ∷ [])
+    × (translatedAnswer noWidth 24 6143
+    ∷ translatedAnswer noWidth 24 6144
+    ∷ translatedAnswer (twoAt 15 (load 0 12)) 24 6144
+    ∷ translatedAnswer (twoAt 15 (load 0 12)) 16 6144
+    ∷ translatedAnswer (twoAt 14 (load 0 12)) 16 6144
+    ∷ translatedAnswer (twoAt 14 (load 0 12)) 32 6144
+    ∷ translatedAnswer (twoAt 8 (chained 10)) 32 6144
+    ∷ translatedAnswer (twoAt 0 (chained 10)) 32 6144
+    ∷ translatedAnswer (twoAt 0 (chained 8)) 32 6144
+    ∷ []
+    ≡ at ROOM 0
+    ∷ at RANGE 1
+    ∷ at WINDOW 0
+    ∷ at ALIGN 1
+    ∷ at BOUNDS 1
+    ∷ at CARRY 2
+    ∷ at OFFSET 1
+    ∷ at LONG 0
+    ∷ done
+    ∷ [])
+    × (offsetAnswer (twoAt 0 (shift 2 2 (load 0 4))) 191
+    ∷ offsetAnswer (twoAt 0 (shift 2 2 (load 0 4))) 192
+    ∷ offsetAnswer (twoAt 4 (shift 2 0 (load 0 4))) 192
+    ∷ offsetAnswer (twoAt 4 (shift 4 0 (load 0 4))) 192
+    ∷ offsetAnswer (twoAt 0 (shift 4 0 (load 0 4))) 192
+    ∷ []
+    ≡ at ROOM 0 ∷ at RANGE 3 ∷ at OFFSET 3 ∷ at OFFSET 1 ∷ done ∷ [])
+    × (looped carrying ≡ record { answer = done; work = 5 ∷ 5 ∷ 5 ∷ 5 ∷ drop 4 (upTo 16) })
 unfolding the-calls
-carrying-loop-is-looped-and-not-planned = (refl, refl)
+calls-name-the-first-fault = (refl, refl, refl, refl, refl)
 
 -- a program's run by a rule is done after so many steps, a budget of just as many and the count of the definition, and leaves
 -- what the plain loop leaves
@@ -513,6 +608,12 @@ prologueAlone rows budget section =
 abbrev ofRow : List ℕ → ℕ
 ofRow row = prologueAlone 1 1 row .answer .number
 
+-- a splat of 3 in the prologue; a store of it at address 0 and a row of no kind in the epilogue; and a body of one such row
+abbrev handMade : (f : ℕ) → WithWork
+handMade f =
+    running vectorBytes (record { d = 1; f = f; prologue = 1; body = 1; epilogue = 2 }) (2 ∷ 5 ∷ 0 ∷ 0 ∷ 3 ∷ 0 ∷ []) (replicate 6 0)
+    ((6 ∷ 0 ∷ 5 ∷ 0 ∷ 0x8000_0000 ∷ 0 ∷ []) ++ replicate 6 0) 9 (replicate 32 9) []
+
 -- the answer to a head with no rows, no bytes and no budget
 abbrev beginning : ProgramHead → Answer
 beginning h = running vectorBytes h [] [] [] 0 [] [] .answer
@@ -527,7 +628,10 @@ pub faults-at-their-edges :
     ∷ (1 ∷ 1024 ∷ 0 ∷ 0 ∷ 0 ∷ 0 ∷ [])
     ∷ (1 ∷ 0 ∷ 1 ∷ 0 ∷ 0 ∷ 0 ∷ [])
     ∷ (1 ∷ 0 ∷ 2 ∷ 0 ∷ 0 ∷ 0 ∷ [])
-    -- a splat into register 1,024; of 255, of 256, of 2^32
+    -- a load with numbers in b and high, which it has not
+    ∷ (1 ∷ 0 ∷ 0 ∷ 9999 ∷ 0 ∷ 9999 ∷ [])
+    -- a splat into register 1,024, and with numbers in a and b; of 255, of 256, of 2^32
+    ∷ (2 ∷ 0 ∷ 9999 ∷ 9999 ∷ 0 ∷ 0 ∷ [])
     ∷ (2 ∷ 1024 ∷ 0 ∷ 0 ∷ 0 ∷ 0 ∷ [])
     ∷ (2 ∷ 0 ∷ 0 ∷ 0 ∷ 255 ∷ 0 ∷ [])
     ∷ (2 ∷ 0 ∷ 0 ∷ 0 ∷ 256 ∷ 0 ∷ [])
@@ -553,7 +657,8 @@ pub faults-at-their-edges :
     ∷ (7 ∷ 0 ∷ 0 ∷ 0 ∷ 0 ∷ 0 ∷ [])
     ∷ [])
     ≡ DONE ∷ FAULT ∷ DONE ∷ FAULT
-    ∷ FAULT ∷ DONE ∷ FAULT ∷ FAULT
+    ∷ DONE
+    ∷ DONE ∷ FAULT ∷ DONE ∷ FAULT ∷ FAULT
     ∷ FAULT ∷ FAULT ∷ FAULT ∷ DONE ∷ FAULT
     ∷ DONE ∷ FAULT ∷ DONE ∷ FAULT
     ∷ FAULT ∷ DONE ∷ FAULT ∷ FAULT
@@ -563,17 +668,25 @@ pub faults-at-their-edges :
     ((2 ∷ 0 ∷ 0 ∷ 0 ∷ 3 ∷ 0 ∷ []) ++ (1 ∷ 0 ∷ 0 ∷ 0 ∷ 0x7FFF_FFFF ∷ 0 ∷ []) ++ (6 ∷ 0 ∷ 0 ∷ 0 ∷ 0x8000_0000 ∷ 0 ∷ []))
     ≡ record { answer = after DONE 3; work = replicate 16 0 })
     × (map beginning
-    (record { d = 3; f = 0; prologue = 0; body = 0; epilogue = 0 }
+    (record { d = 0; f = 0; prologue = 0; body = 0; epilogue = 0 }
+    ∷ record { d = 3; f = 0; prologue = 0; body = 0; epilogue = 0 }
     ∷ record { d = 2; f = 2048; prologue = 0; body = 0; epilogue = 0 }
     ∷ record { d = 2; f = 2049; prologue = 0; body = 0; epilogue = 0 }
     ∷ record { d = 3; f = 0; prologue = 1; body = 0; epilogue = 0 }
     ∷ [])
-    ≡ after FAULT 0 ∷ after DONE 0 ∷ after FAULT 0 ∷ at ROOM 0 ∷ [])
+    ≡ after FAULT 0 ∷ after FAULT 0 ∷ after DONE 0 ∷ after FAULT 0 ∷ at ROOM 0 ∷ [])
     -- "a section longer than 1,024 or than its table": 1,024 rows in a table of as many, in one of an entry less, and 1,025 rows
     × (prologueAlone 1024 0 (replicate 6144 0) .answer
     ∷ prologueAlone 1024 0 (replicate 6143 0) .answer
     ∷ prologueAlone 1025 0 (replicate 6150 0) .answer
     ∷ []
     ≡ after OUT 0 ∷ at ROOM 0 ∷ at ROOM 0 ∷ [])
+    -- WINDOW before a FAULT at the start
+    × (running vectorBytes (record { d = 3; f = 0; prologue = 0; body = 0; epilogue = 0 }) [] [] [] 0 (replicate 8 0) (replicate 8 0) .answer
+    ≡ at WINDOW 0)
+    -- F = 1: a splat in the prologue, a store of it in the epilogue, in pass 1, and no body; then a fault, after the store
+    × (handMade 1 ≡ record { answer = after FAULT 2; work = replicate 16 9 ++ replicate 16 3 })
+    -- F = 0: the same in pass 0
+    × (handMade 0 ≡ record { answer = after FAULT 2; work = replicate 16 3 ++ replicate 16 9 })
 unfolding the-calls
-faults-at-their-edges = (refl, refl, refl, refl, refl)
+faults-at-their-edges = (refl, refl, refl, refl, refl, refl, refl, refl)

@@ -3,7 +3,6 @@
 use Prim.Native.Nat.{ℕ, zero, suc}
 use mathlib.Core.List.{List, [], _∷_, _++_}
 use mathlib.Core.Bool.{Bool, cond}
-use lib.Dec.{eqb}
 use Rattle.rules.specs.declared.answers.ReadAnswer.{ReadAnswer}
 use Rattle.rules.specs.declared.answers.ReadAnswer.the-variants as Read
 use Rattle.rules.specs.declared.answers.CheckAnswer.{CheckAnswer}

@@ -1,17 +1,17 @@
 -- The calls: the checks of each as one ordered list, the answer, and what it leaves in every lent table and window, for all
 -- inputs. A contract says that everything a call gives and leaves is what stands here, at W = 16.
 use Prim.Native.Nat.{ℕ, zero, suc}
-use mathlib.Core.List.{List, [], _∷_}
-use mathlib.Core.Bool.{Bool, _||_}
+use mathlib.Core.List.{List, [], _∷_, _++_}
+use mathlib.Core.Bool.{_||_}
 use lib.ListN.{length}
 use Rattle.rules.specs.Answers.{Answer, after, first, ofRead}
-use Rattle.rules.specs.Reading.{Sheet, sheetOf}
+use Rattle.rules.specs.Reading.{sheetOf}
 use Rattle.rules.specs.Trees.{Tree, treeOf}
 use Rattle.rules.specs.PlainLoop.{plain}
 use Rattle.rules.specs.Placing.{place}
 use Rattle.rules.specs.Machine.{Program, Standing, trace, runs, start}
 use Rattle.rules.specs.Code.{programOf}
-use Rattle.rules.specs.Tables.{Graph, graphOf, withTree, headOf, entries, programHead, programIn, left, headLeft}
+use Rattle.rules.specs.Tables.{Graph, graphOf, withTree, headOf, entries, programHead, programIn, tableLeft, headLeft}
 use Rattle.rules.specs.Checks.{headShort, nodesShort, sectionShort, roomCheck, ruleCheck, formCheck, bareCheck, windowCheck, alignCheck, boundsCheck, carryCheck, offsetCheck, longCheck, sectionLong, startFault}
 use Rattle.rules.specs.declared.program.ProgramHead.{ProgramHead}
 
@@ -48,8 +48,8 @@ reading text head nodes =
     let answer = readAnswer text head nodes in
     record {
       answer = answer;
-      head = left (answer .number) head (sheetOf text .head);
-      nodes = left (answer .number) nodes (sheetOf text .nodes);
+      head = tableLeft (answer .number) head (sheetOf text .head);
+      nodes = tableLeft (answer .number) nodes (sheetOf text .nodes);
     }
 
 -- ---- a sheet or graph handed over as tables, "checked by 3 and 4 as if read, right after ROOM"
@@ -88,8 +88,8 @@ placing W rule head nodes placedHead placedNodes =
     let placed = placedGraph W rule (graphOf head nodes) in
     record {
       answer = answer;
-      head = left (answer .number) placedHead (headOf placed);
-      nodes = left (answer .number) placedNodes (placed .nodes);
+      head = tableLeft (answer .number) placedHead (headOf placed);
+      nodes = tableLeft (answer .number) placedNodes (placed .nodes);
     }
 
 -- ---- the plain loop: "6 to 8"
@@ -142,9 +142,9 @@ programLeft answer D p prologue body epilogue =
     record {
       answer = answer;
       head = headLeft (answer .number) (programHead D p);
-      prologue = left (answer .number) prologue (entries (p .prologue));
-      body = left (answer .number) body (entries (p .body));
-      epilogue = left (answer .number) epilogue (entries (p .epilogue));
+      prologue = tableLeft (answer .number) prologue (entries (p .prologue));
+      body = tableLeft (answer .number) body (entries (p .body));
+      epilogue = tableLeft (answer .number) epilogue (entries (p .epilogue));
     }
 
 unfoldable pub translating : (W : ℕ) (head nodes : List ℕ) (workLen tableLen : ℕ) (prologue body epilogue : List ℕ) → WithProgram
@@ -154,11 +154,9 @@ translating W head nodes workLen tableLen prologue body epilogue =
 
 -- ---- the one-step call: "5 to 11, with 5 to 9 judged on the bare sheet and its lines"
 
-abbrev pub planAnswer : (W rule : ℕ) (head nodes : List ℕ) (workLen tableLen : ℕ) (prologue body epilogue : List ℕ) → Answer
-planAnswer W rule head nodes workLen tableLen prologue body epilogue =
+abbrev pub bareChecks : (W rule : ℕ) (head nodes : List ℕ) (workLen tableLen : ℕ) (prologue body epilogue : List ℕ) → List Answer
+bareChecks W rule head nodes workLen tableLen prologue body epilogue =
     let g = graphOf head nodes in
-    let placed = placedGraph W rule g in
-    first
     (roomCheck (headShort head || nodesShort nodes || sectionShort prologue || sectionShort body || sectionShort epilogue)
     ∷ ruleCheck rule
     ∷ formCheck W g
@@ -167,9 +165,15 @@ planAnswer W rule head nodes workLen tableLen prologue body epilogue =
     ∷ alignCheck g
     ∷ boundsCheck g workLen tableLen
     ∷ carryCheck g
-    ∷ offsetCheck W placed
-    ∷ longCheck (graphTree placed)
     ∷ [])
+
+abbrev pub placedChecks : (W : ℕ) (placed : Graph) → List Answer
+placedChecks W placed = offsetCheck W placed ∷ longCheck (graphTree placed) ∷ []
+
+abbrev pub planAnswer : (W rule : ℕ) (head nodes : List ℕ) (workLen tableLen : ℕ) (prologue body epilogue : List ℕ) → Answer
+planAnswer W rule head nodes workLen tableLen prologue body epilogue =
+    first
+    (bareChecks W rule head nodes workLen tableLen prologue body epilogue ++ placedChecks W (placedGraph W rule (graphOf head nodes)))
 
 unfoldable pub planning : (W rule : ℕ) (head nodes : List ℕ) (workLen tableLen : ℕ) (prologue body epilogue : List ℕ) → WithProgram
 planning W rule head nodes workLen tableLen prologue body epilogue =

@@ -2,11 +2,11 @@
 -- store is 1, node k, from 0, is k + 2. W is the bytes of a vector.
 use Prim.Native.Nat.{ℕ, zero, suc, _+_, _-_, _*_, _%_, min}
 use mathlib.Core.List.{List, [], _∷_, _++_}
-use mathlib.Core.Bool.{Bool, cond, not, _&&_, _||_}
+use mathlib.Core.Bool.{Bool, not, _&&_, _||_}
 use lib.ListN.{length}
 use lib.Dec.{ltb, leb, eqb}
-use Rattle.rules.specs.Limits.{windowMost, nodesMost, bareMost, rulesMost, sectionMost, longMost, turnsMost, headEntries, rowEntries, instructionEntries}
-use Rattle.rules.specs.Answers.{Answer, at, after, done, refuseIf, first, each, ROOM, RANGE, SHAPE, BARE, WINDOW, ALIGN, BOUNDS, CARRY, OFFSET, LONG, FAULT}
+use Rattle.rules.specs.Limits.{workWindow, windowMost, nodesMost, bareMost, rulesMost, sectionMost, longMost, fullMost, headEntries, rowEntries, instructionEntries}
+use Rattle.rules.specs.Answers.{Answer, at, after, refuseIf, first, each, ROOM, RANGE, SHAPE, BARE, WINDOW, ALIGN, BOUNDS, CARRY, OFFSET, LONG, FAULT}
 use Rattle.rules.specs.Units.{isWidth}
 use Rattle.rules.specs.Frames.{loadKind, shiftKind}
 use Rattle.rules.specs.Ranges.{headOk, rowOk, takes}
@@ -124,7 +124,7 @@ boundsCheck g workLen tableLen =
 
 -- "a work load with A < S < A+nD"
 abbrev pub carries : (D n S window address : ℕ) → Bool
-carries D n S window address = eqb window 0 && ltb address S && ltb S (address + n * D)
+carries D n S window address = eqb window workWindow && ltb address S && ltb S (address + n * D)
 
 abbrev pub carryRow : Graph → ℕ → Answer
 carryRow g k = refuseIf (isLoad g k && carries (g .D) (g .n) (g .S) (loadWindow g k) (loadAddress g k)) (at CARRY (line k))
@@ -152,4 +152,4 @@ abbrev pub sectionLong : ℕ → List ℕ → Bool
 sectionLong n section = ltb sectionMost n || ltb (length section) (instructionEntries * n)
 
 abbrev pub startFault : (W : ℕ) → ProgramHead → Answer
-startFault W h = refuseIf (not (isWidth (h .d)) || ltb (turnsMost W) (h .f)) (after FAULT 0)
+startFault W h = refuseIf (not (isWidth (h .d)) || ltb (fullMost W) (h .f)) (after FAULT 0)

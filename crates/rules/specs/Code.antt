@@ -1,9 +1,11 @@
 -- "Code of a tree follows figure 7", and the sections of a program. W is the bytes of a vector.
-use Prim.Native.Nat.{ℕ, zero, suc, _+_, _-_, _*_, _/_, _%_, _^_}
+use Prim.Native.Nat.{ℕ, zero, suc, _+_, _-_, _*_, _/_, _%_}
 use mathlib.Core.List.{List, [], _∷_, _++_}
 use mathlib.Core.Bool.{cond}
 use lib.Dec.{ltb}
+use Rattle.rules.specs.Limits.{workWindow, lowValues}
 use Rattle.rules.specs.Trees.{Tree, load, splat, op, shift}
+use Rattle.rules.specs.Offsets.{storeOffset}
 use Rattle.rules.specs.Vectors.{blockZero, held}
 use Rattle.rules.specs.Machine.{Load, Splat, Op, Pair, Splice, Store, Program}
 use Rattle.rules.specs.declared.program.Instruction.{Instruction}
@@ -27,19 +29,19 @@ pairUp W f g d this other = cond (ltb g f) (Pair d this other (f - g)) (Pair d o
 -- left input is generated first, and of a shift's two copies always this"
 unfoldable pub code : (W : ℕ) → Tree → (k r : ℕ) → List Instruction
 code W (load w a) k r = Load r w (a + W * k) ∷ []
-code W (splat v) k r = Splat r (v % 2 ^ 32) (v / 2 ^ 32) ∷ []
+code W (splat v) k r = Splat r (v % lowValues) (v / lowValues) ∷ []
 code W (op o s t) k r =
     code W s k r ++ (code W t k (r + G s) ++ (Op (r + G s + G t) o (r + G s - 1) (r + G s + G t - 1) ∷ []))
 code W (shift f g t) k r =
     code W t k r
     ++ (code W t (beside f g k) (r + G t) ++ (pairUp W f g (r + G t + G t) (r + G t - 1) (r + G t + G t - 1) ∷ []))
 
--- c = S mod 16, p = c/D; "p+n = B·F + e, 0 ≤ e < B"
+-- "Let p = c/D, p+n = B·F + e, 0 ≤ e < B": F and e
 abbrev pub fullVectors : (W D n S : ℕ) → ℕ
-fullVectors W D n S = (S % W / D + n) / (W / D)
+fullVectors W D n S = (storeOffset W S / D + n) / (W / D)
 
 abbrev pub restElements : (W D n S : ℕ) → ℕ
-restElements W D n S = (S % W / D + n) % (W / D)
+restElements W D n S = (storeOffset W S / D + n) % (W / D)
 
 -- the tree, whose value is then in register G-1, and beside it what the sections share
 module _ (W S : ℕ) (t : Tree) where
@@ -48,7 +50,7 @@ module _ (W S : ℕ) (t : Tree) where
 
   -- the old block of the store stream
   abbrev pub oldBlock : (destination : ℕ) → Instruction
-  oldBlock d = Load d 0 (held W S)
+  oldBlock d = Load d workWindow (held W S)
 
   abbrev pub store : (source : ℕ) → Instruction
   store x = Store x (held W S)
@@ -58,14 +60,14 @@ module _ (W S : ℕ) (t : Tree) where
   onlySection D n =
       new
       ++ (oldBlock (G t)
-      ∷ Splice (G t + 1) (G t) (G t - 1) (S % W)
-      ∷ Splice (G t + 2) (G t + 1) (G t) (S % W + n * D)
+      ∷ Splice (G t + 1) (G t) (G t - 1) (storeOffset W S)
+      ∷ Splice (G t + 2) (G t + 1) (G t) (storeOffset W S + n * D)
       ∷ store (G t + 2)
       ∷ [])
 
   -- "tree, old block, splice(old, new, c), store: G+3"
   unfoldable pub prologueSection : List Instruction
-  prologueSection = new ++ (oldBlock (G t) ∷ Splice (G t + 1) (G t) (G t - 1) (S % W) ∷ store (G t + 1) ∷ [])
+  prologueSection = new ++ (oldBlock (G t) ∷ Splice (G t + 1) (G t) (G t - 1) (storeOffset W S) ∷ store (G t + 1) ∷ [])
 
   -- "tree, store: G+1"
   unfoldable pub bodySection : List Instruction
@@ -88,10 +90,10 @@ epilogueOf W D S t (suc e) = epilogueSection W S t D (suc e)
 
 -- n elements with p + n = B·F + e
 unfoldable pub sections : (W D n S : ℕ) → Tree → (F e : ℕ) → Program
-sections W D zero S t F e = record { turns = F; prologue = []; body = []; epilogue = [] }
-sections W D (suc n) S t zero e = record { turns = 0; prologue = onlySection W S t D (suc n); body = []; epilogue = [] }
+sections W D zero S t F e = record { full = F; prologue = []; body = []; epilogue = [] }
+sections W D (suc n) S t zero e = record { full = 0; prologue = onlySection W S t D (suc n); body = []; epilogue = [] }
 sections W D (suc n) S t (suc f) e =
-    record { turns = suc f; prologue = prologueSection W S t; body = bodyOf W S t (suc f); epilogue = epilogueOf W D S t e }
+    record { full = suc f; prologue = prologueSection W S t; body = bodyOf W S t (suc f); epilogue = epilogueOf W D S t e }
 
 unfoldable pub programOf : (W D n S : ℕ) → Tree → Program
 programOf W D n S t = sections W D n S t (fullVectors W D n S) (restElements W D n S)

@@ -1,10 +1,14 @@
 -- The paper's numbers, each named once. "A vector is V = 16 bytes"; V is a reserved word of antt, so definitions are over any
--- width W of a vector, and only the calls say 16.
-use Prim.Native.Nat.{ℕ, _/_}
+-- width W of a vector. Only reading, whose frames hold the paper's 15, and the contracts say 16.
+use Prim.Native.Nat.{ℕ, _*_, _/_, _^_}
 
 -- V
 abbrev pub vectorBytes : ℕ
 vectorBytes = 16
+
+-- the widest element, in bytes
+abbrev pub widthMost : ℕ
+widthMost = 8
 
 -- "There are n elements, 0 to 4,096"
 abbrev pub elementsMost : ℕ
@@ -18,9 +22,12 @@ windowMost = 65536
 abbrev pub addressMost : ℕ
 addressMost = 65535
 
--- "two windows of bytes are lent"
+-- "Two windows of bytes are lent: work (0), read and written, and table (1), only read"
 abbrev pub windows : ℕ
 windows = 2
+
+abbrev pub workWindow : ℕ
+workWindow = 0
 
 -- "operation 0 to 5"
 abbrev pub operations : ℕ
@@ -50,9 +57,16 @@ sectionMost = 1024
 abbrev pub longMost : ℕ
 longMost = 1020
 
--- "F is above 2,048": the vectors of the longest loop, 4,096 elements of 8 bytes
-abbrev pub turnsMost : ℕ → ℕ
-turnsMost W = 32768 / W
+-- "F is above 2,048": the whole vectors of the longest loop
+abbrev pub fullMost : (W : ℕ) → ℕ
+fullMost W = elementsMost * widthMost / W
+
+-- "address a (signed, 32 bits)" is held with this added; a splat's value is held in two parts, the lower below this
+abbrev pub addressZero : ℕ
+addressZero = 2 ^ 31
+
+abbrev pub lowValues : ℕ
+lowValues = 2 ^ 32
 
 -- entries of the lent tables: a sheet's head, a row of a node table, a row of a section
 abbrev pub headEntries : ℕ

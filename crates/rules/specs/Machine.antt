@@ -1,12 +1,13 @@
 -- "Vector code": what one instruction does and when it is a fault, the order in which a program's instructions run, and a run
 -- on a budget. W is the bytes of a vector. A section is a table of any numbers, so a damaged program needs nothing special.
-use Prim.Native.Nat.{ℕ, zero, suc, _+_, _-_, _*_, _^_}
+use Prim.Native.Nat.{ℕ, zero, suc, _+_, _-_, _*_}
 use mathlib.Core.List.{List, [], _∷_, _++_, foldl}
 use mathlib.Core.Bool.{Bool, true, false, _&&_}
 use lib.Dec.{ltb, leb}
 use lib.ListN.{length, getD, set, replicate}
-use Rattle.rules.specs.Limits.{windows, operations, registers, instructionEntries}
+use Rattle.rules.specs.Limits.{windows, operations, registers, lowValues, instructionEntries}
 use Rattle.rules.specs.Answers.{DONE, OUT, FAULT}
+use Rattle.rules.specs.Frames.{loadKind, splatKind, opKind}
 use Rattle.rules.specs.Elements.{modulus}
 use Rattle.rules.specs.PlainLoop.{window}
 use Rattle.rules.specs.Vectors.{vsplat, vop, vshiftpair, vsplice, blockOf, inside, loaded, stored}
@@ -32,31 +33,41 @@ abbrev pub instructionsFrom : List ℕ → ℕ → ℕ → List Instruction
 instructionsFrom section i zero = []
 instructionsFrom section i (suc n) = instructionAt section i ∷ instructionsFrom section (i + 1) n
 
--- 1 load of window a at address low; the destination is a register
+-- the kinds: 1 load, 2 splat and 3 op, as of frames, and three more
+abbrev pub pairKind : ℕ
+pairKind = 4
+
+abbrev pub spliceKind : ℕ
+spliceKind = 5
+
+abbrev pub storeKind : ℕ
+storeKind = 6
+
+-- a load of window a at address low; the destination is a register
 abbrev pub Load : (destination window address : ℕ) → Instruction
-Load d w a = record { kind = 1; destination = d; a = w; b = 0; low = a; high = 0 }
+Load d w a = record { kind = loadKind; destination = d; a = w; b = 0; low = a; high = 0 }
 
--- 2 splat of the value low + 2^32 high
+-- a splat of the value low + 2^32 high
 abbrev pub Splat : (destination low high : ℕ) → Instruction
-Splat d low high = record { kind = 2; destination = d; a = 0; b = 0; low = low; high = high }
+Splat d low high = record { kind = splatKind; destination = d; a = 0; b = 0; low = low; high = high }
 
--- 3 operation low of registers a and b
+-- operation low of registers a and b
 abbrev pub Op : (destination operation left right : ℕ) → Instruction
-Op d o l r = record { kind = 3; destination = d; a = l; b = r; low = o; high = 0 }
+Op d o l r = record { kind = opKind; destination = d; a = l; b = r; low = o; high = 0 }
 
--- 4 vshiftpair and 5 vsplice of registers a and b by the amount low
+-- vshiftpair and vsplice of registers a and b by the amount low
 abbrev pub Pair : (destination first second amount : ℕ) → Instruction
-Pair d x y l = record { kind = 4; destination = d; a = x; b = y; low = l; high = 0 }
+Pair d x y l = record { kind = pairKind; destination = d; a = x; b = y; low = l; high = 0 }
 
 abbrev pub Splice : (destination first second amount : ℕ) → Instruction
-Splice d x y l = record { kind = 5; destination = d; a = x; b = y; low = l; high = 0 }
+Splice d x y l = record { kind = spliceKind; destination = d; a = x; b = y; low = l; high = 0 }
 
--- 6 store of register a at address low
+-- a store of register a at address low
 abbrev pub Store : (source address : ℕ) → Instruction
-Store x a = record { kind = 6; destination = 0; a = x; b = 0; low = a; high = 0 }
+Store x a = record { kind = storeKind; destination = 0; a = x; b = 0; low = a; high = 0 }
 
 abbrev pub splatValue : Instruction → ℕ
-splatValue i = i .low + 2 ^ 32 * i .high
+splatValue i = i .low + lowValues * i .high
 
 -- ---- one instruction in pass j
 
@@ -70,20 +81,34 @@ reg s r = getD (s .regs) r []
 abbrev pub write : ℕ → List ℕ → State → State
 write r v s = record { regs = set (s .regs) r v; work = s .work }
 
--- "an unknown kind, operation, window, register, amount or splat value, or stores outside" is a fault: it depends on the
--- instruction, on D, on the pass and on the length of work, and on nothing else that a run changes
-unfoldable pub soundAs : (kind W D len j : ℕ) → Instruction → Bool
-soundAs zero W D len j i = false
-soundAs (suc zero) W D len j i = ltb (i .destination) registers && ltb (i .a) windows
-soundAs (suc (suc zero)) W D len j i = ltb (i .destination) registers && ltb (splatValue i) (modulus D)
-soundAs (suc (suc (suc zero))) W D len j i =
+-- "an unknown kind, operation, window, register, amount or splat value" is a fault: by the fields alone
+unfoldable pub fieldsAs : (kind W D : ℕ) → Instruction → Bool
+fieldsAs zero W D i = false
+fieldsAs (suc zero) W D i = ltb (i .destination) registers && ltb (i .a) windows
+fieldsAs (suc (suc zero)) W D i = ltb (i .destination) registers && ltb (splatValue i) (modulus D)
+fieldsAs (suc (suc (suc zero))) W D i =
     ltb (i .destination) registers && (ltb (i .a) registers && (ltb (i .b) registers && ltb (i .low) operations))
-soundAs (suc (suc (suc (suc zero)))) W D len j i =
+fieldsAs (suc (suc (suc (suc zero)))) W D i =
     ltb (i .destination) registers && (ltb (i .a) registers && (ltb (i .b) registers && ltb (i .low) W))
-soundAs (suc (suc (suc (suc (suc zero))))) W D len j i =
+fieldsAs (suc (suc (suc (suc (suc zero))))) W D i =
     ltb (i .destination) registers && (ltb (i .a) registers && (ltb (i .b) registers && leb (i .low) W))
-soundAs (suc (suc (suc (suc (suc (suc zero)))))) W D len j i = ltb (i .a) registers && inside W len (blockOf W (i .low) j)
-soundAs (suc (suc (suc (suc (suc (suc (suc k))))))) W D len j i = false
+fieldsAs (suc (suc (suc (suc (suc (suc zero)))))) W D i = ltb (i .a) registers
+fieldsAs (suc (suc (suc (suc (suc (suc (suc k))))))) W D i = false
+
+-- "or stores outside" a work of len bytes: by the pass and the length
+unfoldable pub reachesAs : (kind W len j : ℕ) → Instruction → Bool
+reachesAs zero W len j i = true
+reachesAs (suc zero) W len j i = true
+reachesAs (suc (suc zero)) W len j i = true
+reachesAs (suc (suc (suc zero))) W len j i = true
+reachesAs (suc (suc (suc (suc zero)))) W len j i = true
+reachesAs (suc (suc (suc (suc (suc zero))))) W len j i = true
+reachesAs (suc (suc (suc (suc (suc (suc zero)))))) W len j i = inside W len (blockOf W (i .low) j)
+reachesAs (suc (suc (suc (suc (suc (suc (suc k))))))) W len j i = true
+
+-- an instruction that is no fault
+abbrev pub soundAs : (kind W D len j : ℕ) → Instruction → Bool
+soundAs kind W D len j i = reachesAs kind W len j i && fieldsAs kind W D i
 
 abbrev pub sound : (W D len j : ℕ) → Instruction → Bool
 sound W D len j i = soundAs (i .kind) W D len j i
@@ -109,9 +134,9 @@ effect W D table j s i = effectAs (i .kind) W D table j s i
 
 -- ---- the order of the instructions
 
--- "The machine counts vectors: j = 0 in the prologue, 1 to F-1 in the body, F in the epilogue"
+-- "The machine counts vectors: j = 0 in the prologue, 1 to F-1 in the body, F in the epilogue"; full is F
 pub record Program : Type 0 where
-  pub turns : ℕ
+  pub full : ℕ
   pub prologue : List Instruction
   pub body : List Instruction
   pub epilogue : List Instruction
@@ -131,7 +156,7 @@ passes zero j is = []
 passes (suc k) j is = inPass j is ++ passes k (suc j) is
 
 unfoldable pub trace : Program → List Timed
-trace p = inPass 0 (p .prologue) ++ (passes (p .turns - 1) 1 (p .body) ++ inPass (p .turns) (p .epilogue))
+trace p = inPass 0 (p .prologue) ++ (passes (p .full - 1) 1 (p .body) ++ inPass (p .full) (p .epilogue))
 
 -- ---- a run on a budget
 

@@ -6,6 +6,10 @@ use Rattle.rules.specs.Trees.{Tree, load, splat, op, shift, bytes}
 use Rattle.rules.specs.declared.nodes.Offset.{Offset}
 use Rattle.rules.specs.declared.nodes.Offset.the-variants.{At, Undefined}
 
+-- "c = S mod 16"
+abbrev pub storeOffset : (W S : ℕ) → ℕ
+storeOffset W S = S % W
+
 -- "undefined agrees with everything"
 abbrev pub agree : Offset → Offset → Bool
 agree Undefined b = true
@@ -38,4 +42,4 @@ ruleKept W (shift f g t) = isAt (offset W t) f
 
 -- "The root must agree with c = S mod 16"
 abbrev pub rootKept : (W S : ℕ) → Tree → Bool
-rootKept W S t = agree (At (bytes (S % W))) (offset W t)
+rootKept W S t = agree (At (bytes (storeOffset W S))) (offset W t)

@@ -1,10 +1,10 @@
--- "Placing": the four rules on bare trees. c = S mod W is the store's offset.
+-- "Placing": the four rules on bare trees.
 use Prim.Native.Nat.{ℕ, zero, suc, _+_, _%_}
 use mathlib.Core.List.{List, [], _∷_, _++_}
-use mathlib.Core.Bool.{Bool, cond, _&&_, _||_}
+use mathlib.Core.Bool.{cond, _&&_, _||_}
 use lib.Dec.{ltb, eqb}
 use Rattle.rules.specs.Trees.{Tree, load, splat, op, shift}
-use Rattle.rules.specs.Offsets.{agree, offset}
+use Rattle.rules.specs.Offsets.{storeOffset, agree, offset}
 use Rattle.rules.specs.declared.nodes.Offset.{Offset}
 use Rattle.rules.specs.declared.nodes.Offset.the-variants.{At, Undefined}
 
@@ -55,11 +55,11 @@ loadOffsets W (shift f g t) = loadOffsets W t
 
 -- "the offset met most often among the loads and the store"
 unfoldable pub dominant : (W S : ℕ) → Tree → ℕ
-dominant W S t = oftenest (S % W ∷ loadOffsets W t) (S % W) (loadOffsets W t)
+dominant W S t = oftenest (storeOffset W S ∷ loadOffsets W t) (storeOffset W S) (loadOffsets W t)
 
 -- 0 ZERO, 1 EAGER, 2 LAZY, 3 DOMINANT
 unfoldable pub place : (W S rule : ℕ) → Tree → Tree
-place W S zero t = toward W (S % W) (loadsTo W 0 t)
-place W S (suc zero) t = loadsTo W (S % W) t
-place W S (suc (suc zero)) t = toward W (S % W) (inputsTo W (S % W) t)
-place W S (suc (suc (suc r))) t = toward W (S % W) (inputsTo W (dominant W S t) t)
+place W S zero t = toward W (storeOffset W S) (loadsTo W 0 t)
+place W S (suc zero) t = loadsTo W (storeOffset W S) t
+place W S (suc (suc zero)) t = toward W (storeOffset W S) (inputsTo W (storeOffset W S) t)
+place W S (suc (suc (suc r))) t = toward W (storeOffset W S) (inputsTo W (dominant W S t) t)

@@ -1,7 +1,7 @@
 -- "3 RANGE: a field outside its range", for a sheet that is read and for one that is handed over as tables; and how many of
 -- the nodes that wait a node takes. W is the bytes of a vector.
 use Prim.Native.Nat.{ℕ, zero, suc, _%_}
-use mathlib.Core.Bool.{Bool, true, false, not, _&&_}
+use mathlib.Core.Bool.{Bool, false, not, _&&_}
 use lib.Dec.{ltb, leb, eqb}
 use Rattle.rules.specs.Limits.{elementsMost, addressMost, windows, operations}
 use Rattle.rules.specs.Units.{isWidth}

@@ -34,7 +34,7 @@ entries (i ∷ is) = i .kind ∷ i .destination ∷ i .a ∷ i .b ∷ i .low ∷
 -- the head of a program, and of none
 abbrev pub programHead : (D : ℕ) → Program → ProgramHead
 programHead D p =
-    record { d = D; f = p .turns; prologue = length (p .prologue); body = length (p .body); epilogue = length (p .epilogue) }
+    record { d = D; f = p .full; prologue = length (p .prologue); body = length (p .body); epilogue = length (p .epilogue) }
 
 abbrev pub noProgram : ProgramHead
 noProgram = record { d = 0; f = 0; prologue = 0; body = 0; epilogue = 0 }
@@ -43,7 +43,7 @@ noProgram = record { d = 0; f = 0; prologue = 0; body = 0; epilogue = 0 }
 abbrev pub programIn : ProgramHead → (prologue body epilogue : List ℕ) → Program
 programIn h prologue body epilogue =
     record {
-      turns = h .f;
+      full = h .f;
       prologue = instructionsFrom prologue 0 (h .prologue);
       body = instructionsFrom body 0 (h .body);
       epilogue = instructionsFrom epilogue 0 (h .epilogue);
@@ -55,10 +55,10 @@ padded len made = made ++ replicate (len - length made) 0
 
 -- an output table afterwards, by the answer's number: "On done the unused entries of output tables are zero. ROOM leaves tables
 -- unchanged; 2 to 11 leave the lent output tables all zero."
-abbrev pub left : (number : ℕ) → (before made : List ℕ) → List ℕ
-left zero before made = padded (length before) made
-left (suc zero) before made = before
-left (suc (suc number)) before made = padded (length before) []
+abbrev pub tableLeft : (number : ℕ) → (before made : List ℕ) → List ℕ
+tableLeft zero before made = padded (length before) made
+tableLeft (suc zero) before made = before
+tableLeft (suc (suc number)) before made = padded (length before) []
 
 -- the program's head, which goes by value: zero on every refusal
 abbrev pub headLeft : (number : ℕ) → ProgramHead → ProgramHead

@@ -1,10 +1,11 @@
 -- Vectors of W bytes as lists: lanes, vshiftpair, vsplice, and the blocks of a window.
-use Prim.Native.Nat.{ℕ, zero, suc, _+_, _-_, _*_, _/_, _^_}
+use Prim.Native.Nat.{ℕ, zero, suc, _+_, _-_, _*_, _/_}
 use mathlib.Core.List.{List, [], _++_}
 use mathlib.Core.Bool.{Bool, cond, _&&_}
 use lib.Dec.{leb}
 use lib.ListN.{length, take, drop, replicate}
 use lib.Seq.{paste}
+use Rattle.rules.specs.Limits.{addressZero}
 use Rattle.rules.specs.Elements.{toBytes, element, operate}
 
 -- lane 0, lane 1, .. one after the other
@@ -31,7 +32,7 @@ vsplice v1 v2 l = take l v1 ++ drop l v2
 -- An address is signed, 32 bits. It is held with 2^31 added, and so the low bits are dropped downward also below zero: block
 -- numbers are counted from address -2^31, and block 0 of a window is this one
 unfoldable pub blockZero : (W : ℕ) → ℕ
-blockZero W = 2 ^ 31 / W
+blockZero W = addressZero / W
 
 abbrev pub held : (W : ℕ) → ℕ → ℕ
 held W address = address + W * blockZero W

@@ -8,7 +8,7 @@ use native.Mathlib.Omega.{arith}
 use borrow.Author.Tests.{ltb-true, ltb-false, leb-true, leb-false, eqb-true, eqb-false, eq-eqb, lt-ltb, le-ltb, not-true, not-false}
 use lib.Dec.{ltb, leb, eqb}
 use lib.ListN.{length, getD}
-use Rattle.rules.specs.Limits.{windows, operations, bareMost, longMost, elementsMost, addressMost, windowMost}
+use Rattle.rules.specs.Limits.{windows, operations, bareMost, longMost, elementsMost, widthMost, addressMost, windowMost}
 use Rattle.rules.specs.Answers.{Answer, DONE, at, refuseIf, first, each, ALIGN, BOUNDS, CARRY, OFFSET}
 use Rattle.rules.specs.Units.{isWidth}
 use Rattle.rules.specs.Elements.{modulus}
@@ -37,7 +37,7 @@ pub record VectorWidth (W : ℕ) : Type 0 where
   pub vector : 0 < W
   pub lanes : (D : ℕ) → isWidth D ≡ true → W / D * D ≡ W
   pub deep : longMost ≤ blockZero W
-  pub turns : 32768 % W ≡ 0
+  pub longest : elementsMost * widthMost % W ≡ 0
 
 -- D is 1, 2, 4 or 8
 pub width-is : (P : ℕ → Type 0) → P 1 → P 2 → P 4 → P 8 → (D : ℕ) → isWidth D ≡ true → P D
@@ -57,7 +57,7 @@ sixteen = record {
   vector = omega arith;
   lanes = width-is (λ D. 16 / D * D ≡ 16) refl refl refl refl;
   deep = omega arith;
-  turns = refl;
+  longest = refl;
 }
 
 pub width-pos : (D : ℕ) → isWidth D ≡ true → 0 < D
@@ -169,16 +169,16 @@ bare-count W g f h = rw (formed-count W g f) (go (g .N) refl)
 -- ---- the tree
 
 -- a load that passes, an offset rule that is kept, a node that is no shift: what the checks say of one node
-abbrev LoadNode : (D n S : ℕ) → List ℕ → List ℕ → Tree → Type 0
+abbrev pub LoadNode : (D n S : ℕ) → List ℕ → List ℕ → Tree → Type 0
 LoadNode D n S work table (load w a) = LoadPasses D n S work table w a
 LoadNode D n S work table (splat v) = Unit
 LoadNode D n S work table (op o l r) = Unit
 LoadNode D n S work table (shift f g t) = Unit
 
-abbrev RuleNode : (W : ℕ) → Tree → Type 0
+abbrev pub RuleNode : (W : ℕ) → Tree → Type 0
 RuleNode W t = ruleKept W t ≡ true
 
-abbrev NoShift : Tree → Type 0
+abbrev pub NoShift : Tree → Type 0
 NoShift (load w a) = Unit
 NoShift (splat v) = Unit
 NoShift (op o l r) = Unit
@@ -260,7 +260,7 @@ carry-from D n S w a e z h =
     let p : (eqb w 0 && ltb a S) ≡ true = rw (eq-eqb w 0 z, lt-ltb a S h) in
     ltb-false S (a + n * D) (unless (eqb w 0 && ltb a S) _ e p)
 
-length-of : (w : ℕ) (work table : List ℕ) → lengthOf w (length work) (length table) ≡ length (window w work table)
+pub length-of : (w : ℕ) (work table : List ℕ) → lengthOf w (length work) (length table) ≡ length (window w work table)
 length-of zero work table = refl
 length-of (suc w) work table = refl
 

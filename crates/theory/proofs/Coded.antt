@@ -9,6 +9,7 @@ use native.Mathlib.Omega.{arith}
 use lib.Dec.{ltb}
 use lib.ListN.{length, set, length-set, length-append}
 use lib.Seq.{getD-set-same, getD-set-other}
+use Rattle.rules.specs.Limits.{lowValues}
 use Rattle.rules.specs.Trees.{Tree, load, splat, op, shift}
 use Rattle.rules.specs.PlainLoop.{window}
 use Rattle.rules.specs.Vectors.{vsplat, vop, vshiftpair, loaded, blockOf}
@@ -64,8 +65,8 @@ beside-deep f g k d h = go (ltb g f)
 pub block-moved : (W a k j : ℕ) → 0 < W → blockOf W (a + W * k) j ≡ a / W + (k + j)
 block-moved W a k j h = ap (λ (x : ℕ). x / W) (omega arith) ∙ add-mul-div-left a (k + j) h
 
-pub splat-value : (d v : ℕ) → splatValue (Splat d (v % 2 ^ 32) (v / 2 ^ 32)) ≡ v
-splat-value d v = mod-add-div v (2 ^ 32)
+pub splat-value : (d v : ℕ) → splatValue (Splat d (v % lowValues) (v / lowValues)) ≡ v
+splat-value d v = mod-add-div v (lowValues)
 
 -- from s to s′ only registers from r on have changed, and register x holds v
 pub record Coded (r x : ℕ) (v : List ℕ) (s s′ : State) : Type 0 where

@@ -204,7 +204,7 @@ Everywhere P (op o l r) = P (op o l r) × Everywhere P l × Everywhere P r
 Everywhere P (shift f g t) = P (shift f g t) × Everywhere P t
 
 module _ (P : Tree → Type 0) where
-  abbrev Everyone : List Tree → Type 0
+  abbrev pub Everyone : List Tree → Type 0
   Everyone [] = Unit {0}
   Everyone (t ∷ ts) = Everywhere P t × Everyone ts
 

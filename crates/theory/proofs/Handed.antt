@@ -9,7 +9,7 @@ use native.Mathlib.Omega.{arith}
 use borrow.Author.Tests.{le-ltb, ltb-false}
 use lib.Dec.{ltb}
 use lib.ListN.{length, take, length-append, length-replicate, replicate}
-use Rattle.rules.specs.Limits.{registers, sectionMost, longMost, elementsMost, turnsMost, instructionEntries}
+use Rattle.rules.specs.Limits.{registers, sectionMost, longMost, elementsMost, fullMost, instructionEntries}
 use Rattle.rules.specs.Answers.{Answer, DONE, OUT, at, after, first, refuseIf, ROOM, orElse, done}
 use Rattle.rules.specs.Units.{isWidth}
 use Rattle.rules.specs.Trees.{Tree}
@@ -60,11 +60,11 @@ program-fits W D n S t h = go n (fullVectors W D n S) (restElements W D n S)
       epilogue = omega (arith, length-epilogue W S t D e, epilogue-most (G t) e);
     }
 
-pub program-turns : (W D n S : ℕ) (t : Tree) → programOf W D n S t .turns ≡ fullVectors W D n S
+pub program-full : (W D n S : ℕ) (t : Tree) → programOf W D n S t .full ≡ fullVectors W D n S
 unfolding programOf sections
-program-turns W D n S t = go n (fullVectors W D n S) (restElements W D n S)
+program-full W D n S t = go n (fullVectors W D n S) (restElements W D n S)
   where
-    go : (n F e : ℕ) → sections W D n S t F e .turns ≡ F
+    go : (n F e : ℕ) → sections W D n S t F e .full ≡ F
     go zero F e = refl
     go (suc n) zero e = refl
     go (suc n) (suc f) e = refl
@@ -93,13 +93,13 @@ module _ (W : ℕ) (v : VectorWidth W) (D n S : ℕ) (work table : List ℕ) (t 
       (padded (length epilogue) (entries (p .epilogue))) budget work table
 
   -- F is at most 32,768 / W
-  turns-most : fullVectors W D n S ≤ turnsMost W
-  turns-most =
+  full-most : fullVectors W D n S ≤ fullMost W
+  full-most =
       let q = plan-bytes W D n S work table t c g in
       let b : n * D ≤ elementsMost * 8 = mul-le-mul (head .elements) (width-most D (head .width)) in
       let d : W * (32768 / W) + 32768 % W ≡ 32768 = div-add-mod 32768 W in
       let l : fullVectors W D n S < suc (32768 / W) =
-      lt-of-mul-lt-mul-left W (omega (arith, q .0, mod-lt S (v .vector), v .turns)) in
+      lt-of-mul-lt-mul-left W (omega (arith, q .0, mod-lt S (v .vector), v .longest)) in
       omega (arith, l)
 
   starts : startAnswer W (programHead D (programOf W D n S t)) (padded (length prologue) (entries (programOf W D n S t .prologue)))
@@ -114,8 +114,8 @@ module _ (W : ℕ) (v : VectorWidth W) (D n S : ℕ) (work table : List ℕ) (t 
         section-room (programOf W D n S t .epilogue) epilogue (f .epilogue) (room .2),
         lengths,
         head .width,
-        program-turns W D n S t,
-        le-ltb (turnsMost W) (fullVectors W D n S) turns-most,
+        program-full W D n S t,
+        le-ltb (fullMost W) (fullVectors W D n S) full-most,
       )
 
   pub read-back : programIn (programHead D (programOf W D n S t)) (padded (length prologue) (entries (programOf W D n S t .prologue)))

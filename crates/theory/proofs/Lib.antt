@@ -18,6 +18,7 @@ pub mod FormLaws
 pub mod ReadingLaws
 pub mod PlacedForm
 pub mod Checked
+pub mod Accepted
 pub mod Handed
 pub mod Unrefused
 pub mod AnswerLaws

@@ -1,5 +1,5 @@
 -- A placed graph handed over as tables is never RANGE or SHAPE: placing keeps the fields in their ranges, and the tree's rows
--- make a graph of at most 62 nodes.
+-- make a graph of at most 48 nodes.
 use mathlib.Core.Path.{_≡_}
 use mathlib.Core.Bool.{true}
 use Prim.Native.Nat.{ℕ, _*_, _/_, _%_, _≤_, _<_}

@@ -130,8 +130,8 @@ module _ (W S rule : ℕ) (t : Tree) (b : Unshifted t) where
       (λ g m. omega (arith, toward-size W (S % W) (inputsTo W g t), inputsTo-slim W g t b .size))
       rule
 
-  -- 31 nodes become at most 48, and 64 rows have room for them
-  pub place-count : count t ≤ bareMost → count (place W S rule t) ≤ 62
+  -- 31 nodes become at most 48, and so fewer than the 62 that one shift an edge would give, and 64 rows have room for them
+  pub place-count : count t ≤ bareMost → count (place W S rule t) ≤ 48
   place-count h = omega (arith, place-count-most)
 
   -- for 31 nodes G is at most 127

@@ -15,7 +15,7 @@ use Rattle.rules.specs.Digits.{digitRun, spelled}
 use Rattle.rules.specs.Frames.{fieldDigits, frameDigits, fieldsOf, frameOf, frameAt, endKind, headerKind}
 use Rattle.rules.specs.Ranges.{headOk, rowOk, takes}
 use Rattle.rules.specs.Reading.{Sheet, nodeLine, endLine, lineBy, lineAt, refused, follow, linesFrom, fresh, headerLine, sheetBy, sheetOf}
-use Rattle.rules.specs.Tables.{graphOf, padded, left}
+use Rattle.rules.specs.Tables.{graphOf, padded, tableLeft}
 use Rattle.rules.specs.Checks.{headShort, nodesShort, roomCheck, formCheck}
 use Rattle.rules.specs.Calls.{readAnswer, reading, checking}
 use Rattle.theory.proofs.RowLaws.{length-padded}
@@ -440,7 +440,7 @@ unfolding reading
 reading-lengths text head nodes = go (readAnswer text head nodes .number) refl
   where
     go : (number : ℕ) → readAnswer text head nodes .number ≡ number
-        → (length (left number head (sheetOf text .head)) ≡ length head) × (length (left number nodes (sheetOf text .nodes)) ≡ length nodes)
+        → (length (tableLeft number head (sheetOf text .head)) ≡ length head) × (length (tableLeft number nodes (sheetOf text .nodes)) ≡ length nodes)
     go zero e = (head-fits text head nodes (reading-done text head nodes e), nodes-fit text head nodes (reading-done text head nodes e))
     go (suc zero) e = (refl, refl)
     go (suc (suc number)) e = (length-padded (length head) [] (omega arith), length-padded (length nodes) [] (omega arith))

@@ -16,7 +16,7 @@ use Rattle.rules.specs.Answers.{DONE, OUT}
 use Rattle.rules.specs.Elements.{toBytes}
 use Rattle.rules.specs.PlainLoop.{window}
 use Rattle.rules.specs.Vectors.{vsplat, vop, blockZero, blockOf, inside, loaded, stored}
-use Rattle.rules.specs.Machine.{State, reg, write, soundAs, sound, effectAs, effect, Program, Timed, inPass, passes, trace, standing, step, runs, blank, splatValue}
+use Rattle.rules.specs.Machine.{State, reg, write, fieldsAs, reachesAs, soundAs, sound, effectAs, effect, Program, Timed, inPass, passes, trace, standing, step, runs, blank, splatValue}
 use Rattle.rules.specs.declared.program.Instruction.{Instruction}
 use Rattle.theory.proofs.Lists.{split, and-left, and-right, Every, none, more, every-append, length-lanes, length-pair, length-splice}
 use Rattle.theory.proofs.Numbers.{length-toBytes}
@@ -63,13 +63,14 @@ module _ (W D len : ℕ) (table : List ℕ) (l : W / D * D ≡ W) (j : ℕ) (s :
         and-right (ltb (i .b) registers) t q,
       )
 
-  stored-whole : (block : ℕ) → (ltb (i .a) registers && inside W len block) ≡ true
+  stored-whole : (block : ℕ) → (inside W len block && ltb (i .a) registers) ≡ true
       → Whole W len (record { regs = s .regs; work = stored W (s .work) block (reg s (i .a)) })
   unfolding stored inside
   stored-whole block e =
+      let in-work : Bool = leb (blockZero W) block && leb (W * (block - blockZero W) + W) len in
       let p : W * (block - blockZero W) + W ≤ len =
-      leb-true _ _ (and-right (leb (blockZero W) block) _ (and-right (ltb (i .a) registers) _ e)) in
-      let v : length (reg s (i .a)) ≡ W = h .vectors (i .a) (ltb-true _ _ (and-left (ltb (i .a) registers) _ e)) in
+      leb-true _ _ (and-right (leb (blockZero W) block) _ (and-left in-work (ltb (i .a) registers) e)) in
+      let v : length (reg s (i .a)) ≡ W = h .vectors (i .a) (ltb-true _ _ (and-right in-work (ltb (i .a) registers) e)) in
       record {
         count = h .count;
         vectors = h .vectors;
@@ -77,7 +78,7 @@ module _ (W D len : ℕ) (table : List ℕ) (l : W / D * D ≡ W) (j : ℕ) (s :
       }
 
   effect-whole-as : (k : ℕ) → soundAs k W D len j i ≡ true → Whole W len (effectAs k W D table j s i)
-  unfolding soundAs effectAs vsplat vop
+  unfolding fieldsAs reachesAs effectAs vsplat vop
   effect-whole-as zero e = h
   effect-whole-as (suc zero) e = write-whole W len _ _ s (length-loaded W (window (i .a) (s .work) table) _) h
   effect-whole-as (suc (suc zero)) e =

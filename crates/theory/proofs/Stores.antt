@@ -10,7 +10,7 @@ use lib.Dec.{ltb, eqb}
 use lib.ListN.{length}
 use Rattle.rules.specs.Trees.{Tree, load, splat, op, shift}
 use Rattle.rules.specs.Vectors.{blockZero, held, blockOf}
-use Rattle.rules.specs.Machine.{Pair, Program, Timed, inPass, passes, trace}
+use Rattle.rules.specs.Machine.{storeKind, Pair, Program, Timed, inPass, passes, trace}
 use Rattle.rules.specs.Code.{G, beside, pairUp, code, fullVectors, restElements, onlySection, prologueSection, bodySection, epilogueSection, bodyOf, epilogueOf, sections, programOf}
 use Rattle.rules.specs.declared.program.Instruction.{Instruction}
 use Rattle.theory.proofs.Passing.{Loop, Passes}
@@ -21,7 +21,7 @@ use Rattle.theory.proofs.Sections.{no-passes}
 -- the blocks that a trace stores into, in its order
 unfoldable pub storesOf : (W : ℕ) → List Timed → List ℕ
 storesOf W [] = []
-storesOf W (t ∷ ts) = cond (eqb (t .instruction .kind) 6) (blockOf W (t .instruction .low) (t .pass) ∷ storesOf W ts) (storesOf W ts)
+storesOf W (t ∷ ts) = cond (eqb (t .instruction .kind) storeKind) (blockOf W (t .instruction .low) (t .pass) ∷ storesOf W ts) (storesOf W ts)
 
 -- k blocks, one after the other
 abbrev pub upFrom : ℕ → ℕ → List ℕ
@@ -62,7 +62,7 @@ module _ (W : ℕ) where
   stores-append : (ts us : List Timed) → storesOf W (ts ++ us) ≡ storesOf W ts ++ storesOf W us
   unfolding storesOf
   stores-append [] us = refl
-  stores-append (t ∷ ts) us = go (eqb (t .instruction .kind) 6) (stores-append ts us)
+  stores-append (t ∷ ts) us = go (eqb (t .instruction .kind) storeKind) (stores-append ts us)
     where
       b : ℕ
       b = blockOf W (t .instruction .low) (t .pass)

@@ -11,7 +11,7 @@ use lib.Dec.{ltb, eqb}
 use lib.ListN.{length, take, drop, length-append}
 use lib.Seq.{drop-nil}
 use Rattle.rules.specs.Answers.{DONE, OUT, FAULT}
-use Rattle.rules.specs.Machine.{State, sound, effect, effectAs, Program, Timed, inPass, passes, trace, Standing, standing, step, runs}
+use Rattle.rules.specs.Machine.{storeKind, State, sound, effect, effectAs, Program, Timed, inPass, passes, trace, Standing, standing, step, runs}
 use Rattle.rules.specs.declared.program.Instruction.{Instruction}
 use Rattle.theory.proofs.Coded.{execs}
 
@@ -27,7 +27,7 @@ unfolding passes
 length-passes zero j is = omega arith
 length-passes (suc k) j is = simp (length-append, length-pass, length-passes k) (omega arith)
 
-pub length-trace : (p : Program) → length (trace p) ≡ length (p .prologue) + (p .turns - 1) * length (p .body) + length (p .epilogue)
+pub length-trace : (p : Program) → length (trace p) ≡ length (p .prologue) + (p .full - 1) * length (p .body) + length (p .epilogue)
 unfolding trace
 length-trace p = simp (length-append, length-pass, length-passes) (omega arith)
 
@@ -46,8 +46,8 @@ module _ (W D : ℕ) (table : List ℕ) where
   made-pass j s [] = refl
   made-pass j s (i ∷ is) = made-pass j (effect W D table j s i) is
 
-  -- only a store, kind 6, writes work
-  pub only-stores-write : (j : ℕ) (s : State) (i : Instruction) → (i .kind ≡ 6 → ⊥) → (effect W D table j s i) .work ≡ s .work
+  -- only a store writes work
+  pub only-stores-write : (j : ℕ) (s : State) (i : Instruction) → (i .kind ≡ storeKind → ⊥) → (effect W D table j s i) .work ≡ s .work
   unfolding effectAs
   only-stores-write j s i ne = go (i .kind) refl
     where

@@ -9,11 +9,11 @@ use native.Mathlib.Omega.{arith}
 use borrow.Author.Tests.{lt-ltb, le-leb, ltb-false}
 use lib.Dec.{ltb, leb}
 use lib.ListN.{length, length-append}
-use Rattle.rules.specs.Limits.{registers, windows, operations, longMost}
+use Rattle.rules.specs.Limits.{registers, windows, operations, lowValues, longMost}
 use Rattle.rules.specs.Elements.{modulus}
 use Rattle.rules.specs.Trees.{Tree, load, splat, op, shift}
 use Rattle.rules.specs.Vectors.{blockZero, held, blockOf, inside}
-use Rattle.rules.specs.Machine.{Load, Splat, Op, Pair, Splice, Store, soundAs, sound, splatValue, Program, inPass, passes, trace}
+use Rattle.rules.specs.Machine.{Load, Splat, Op, Pair, Splice, Store, fieldsAs, reachesAs, sound, splatValue, Program, inPass, passes, trace}
 use Rattle.rules.specs.Code.{G, beside, pairUp, code, fullVectors, restElements, onlySection, prologueSection, bodySection, epilogueSection, bodyOf, epilogueOf, sections, programOf, epilogueSteps, stepsBy, stepsOf}
 use Rattle.rules.specs.declared.program.Instruction.{Instruction}
 use Rattle.theory.proofs.Lists.{Every, none, more, every-append}
@@ -143,23 +143,23 @@ module _ (W D len j : ℕ) where
   AllSound is = Every (λ i. sound W D len j i ≡ true) is
 
   sound-load : (d w a : ℕ) → d < registers → w < windows → sound W D len j (Load d w a) ≡ true
-  unfolding soundAs
+  unfolding fieldsAs reachesAs
   sound-load d w a hd hw = rw (lt-ltb d registers hd, lt-ltb w windows hw)
 
-  sound-splat : (d v : ℕ) → d < registers → v < modulus D → sound W D len j (Splat d (v % 2 ^ 32) (v / 2 ^ 32)) ≡ true
-  unfolding soundAs
+  sound-splat : (d v : ℕ) → d < registers → v < modulus D → sound W D len j (Splat d (v % lowValues) (v / lowValues)) ≡ true
+  unfolding fieldsAs reachesAs
   sound-splat d v hd hv = rw (lt-ltb d registers hd, splat-value d v, lt-ltb v (modulus D) hv)
 
   sound-op : (d o x y : ℕ) → d < registers → x < registers → y < registers → o < operations → sound W D len j (Op d o x y) ≡ true
-  unfolding soundAs
+  unfolding fieldsAs reachesAs
   sound-op d o x y hd hx hy ho = rw (lt-ltb d registers hd, lt-ltb x registers hx, lt-ltb y registers hy, lt-ltb o operations ho)
 
   sound-pair : (d x y l : ℕ) → d < registers → x < registers → y < registers → l < W → sound W D len j (Pair d x y l) ≡ true
-  unfolding soundAs
+  unfolding fieldsAs reachesAs
   sound-pair d x y l hd hx hy hl = rw (lt-ltb d registers hd, lt-ltb x registers hx, lt-ltb y registers hy, lt-ltb l W hl)
 
   sound-splice : (d x y l : ℕ) → d < registers → x < registers → y < registers → l ≤ W → sound W D len j (Splice d x y l) ≡ true
-  unfolding soundAs
+  unfolding fieldsAs reachesAs
   sound-splice d x y l hd hx hy hl = rw (lt-ltb d registers hd, lt-ltb x registers hx, lt-ltb y registers hy, le-leb l W hl)
 
   sound-pair-up : (f g d x y : ℕ) → f < W → g < W → (f ≡ g → ⊥) → d < registers → x < registers → y < registers
@@ -188,15 +188,15 @@ module _ (W D len j : ℕ) where
 module _ (W D n S : ℕ) (work table : List ℕ) (t : Tree) (c : Loop W D n S work table) (g : Passes W D n S work table t) (hr : G t ≤ longMost) where
   module _ (j : ℕ) (h : W * j < S % W + n * D) where
     store-sound : (x : ℕ) → x < registers → sound W D (length work) j (Store x (held W S)) ≡ true
-    unfolding soundAs inside
+    unfolding fieldsAs reachesAs inside
     store-sound x hx =
         let q : S / W + (blockZero W + j) - blockZero W ≡ S / W + j = omega arith in
         rw (
-          lt-ltb x registers hx,
           block-moved W S (blockZero W) j (c .vector),
           q,
           le-leb (blockZero W) (S / W + (blockZero W + j)) (omega arith),
           le-leb (W * (S / W + j) + W) (length work) (block-inside W D n S work table t c g j work refl h),
+          lt-ltb x registers hx,
         )
 
     new-sound : AllSound W D (length work) j (code W t (blockZero W) 0)
