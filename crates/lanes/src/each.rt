@@ -1,0 +1,158 @@
+// An operation on every pair of elements of two vectors, a loop for each width. The operation is handed to the loop as a constant,
+// so that the compiler has a loop for each of the six and makes vector instructions of it.
+ghost use mathlib.Core.Path.{_≡_};
+ghost use Rattle.rules.specs.Limits.{vectorBytes};
+ghost use Rattle.rules.specs.Vectors.{vop};
+use crate::elements;
+use crate::elements::EIGHT;
+use crate::elements::EIGHTS;
+use crate::elements::FOUR;
+use crate::elements::FOURS;
+use crate::elements::TWO;
+use crate::elements::TWOS;
+use crate::elements::VECTOR_BYTES;
+use crate::elements::Vector;
+use crate::operations;
+use crate::operations::ADD;
+use crate::operations::MAXIMUM;
+use crate::operations::MINIMUM;
+use crate::operations::SIGNED_MAXIMUM;
+use crate::operations::SIGNED_MINIMUM;
+use crate::operations::SUBTRACT;
+
+fn each_one<'a>(operation: u32, v1: &'a Vector, v2: &'a Vector) -> Vector
+    ensures { λ r. ⌜ r ≡ vop vectorBytes 1 operation (now (v1 .entry)) (now (v2 .entry)) ⌝ }
+{
+    let mut r = [0u8; VECTOR_BYTES];
+    for i in 0..VECTOR_BYTES {
+        let z = operations::operate_one(operation, v1[i], v2[i]);
+        r[i] = z;
+    }
+    r
+}
+
+fn each_two<'a>(operation: u32, v1: &'a Vector, v2: &'a Vector) -> Vector
+    ensures { λ r. ⌜ r ≡ vop vectorBytes 2 operation (now (v1 .entry)) (now (v2 .entry)) ⌝ }
+{
+    let mut r = [0u16; TWOS];
+    for i in 0..TWOS {
+        let at = i * TWO;
+        let x = elements::two_at(v1, at);
+        let y = elements::two_at(v2, at);
+        let z = operations::operate_two(operation, x, y);
+        r[i] = z;
+    }
+    elements::join_two(r)
+}
+
+fn each_four<'a>(operation: u32, v1: &'a Vector, v2: &'a Vector) -> Vector
+    ensures { λ r. ⌜ r ≡ vop vectorBytes 4 operation (now (v1 .entry)) (now (v2 .entry)) ⌝ }
+{
+    let mut r = [0u32; FOURS];
+    for i in 0..FOURS {
+        let at = i * FOUR;
+        let x = elements::four_at(v1, at);
+        let y = elements::four_at(v2, at);
+        let z = operations::operate_four(operation, x, y);
+        r[i] = z;
+    }
+    elements::join_four(r)
+}
+
+fn each_eight<'a>(operation: u32, v1: &'a Vector, v2: &'a Vector) -> Vector
+    ensures { λ r. ⌜ r ≡ vop vectorBytes 8 operation (now (v1 .entry)) (now (v2 .entry)) ⌝ }
+{
+    let mut r = [0u64; EIGHTS];
+    for i in 0..EIGHTS {
+        let at = i * EIGHT;
+        let x = elements::eight_at(v1, at);
+        let y = elements::eight_at(v2, at);
+        let z = operations::operate_eight(operation, x, y);
+        r[i] = z;
+    }
+    elements::join_eight(r)
+}
+
+pub(crate) fn one<'a>(operation: u32, v1: &'a Vector, v2: &'a Vector) -> Vector
+    ensures { λ r. ⌜ r ≡ vop vectorBytes 1 operation (now (v1 .entry)) (now (v2 .entry)) ⌝ }
+{
+    if operation == ADD {
+        return each_one(ADD, v1, v2);
+    }
+    if operation == SUBTRACT {
+        return each_one(SUBTRACT, v1, v2);
+    }
+    if operation == MINIMUM {
+        return each_one(MINIMUM, v1, v2);
+    }
+    if operation == MAXIMUM {
+        return each_one(MAXIMUM, v1, v2);
+    }
+    if operation == SIGNED_MINIMUM {
+        return each_one(SIGNED_MINIMUM, v1, v2);
+    }
+    each_one(SIGNED_MAXIMUM, v1, v2)
+}
+
+pub(crate) fn two<'a>(operation: u32, v1: &'a Vector, v2: &'a Vector) -> Vector
+    ensures { λ r. ⌜ r ≡ vop vectorBytes 2 operation (now (v1 .entry)) (now (v2 .entry)) ⌝ }
+{
+    if operation == ADD {
+        return each_two(ADD, v1, v2);
+    }
+    if operation == SUBTRACT {
+        return each_two(SUBTRACT, v1, v2);
+    }
+    if operation == MINIMUM {
+        return each_two(MINIMUM, v1, v2);
+    }
+    if operation == MAXIMUM {
+        return each_two(MAXIMUM, v1, v2);
+    }
+    if operation == SIGNED_MINIMUM {
+        return each_two(SIGNED_MINIMUM, v1, v2);
+    }
+    each_two(SIGNED_MAXIMUM, v1, v2)
+}
+
+pub(crate) fn four<'a>(operation: u32, v1: &'a Vector, v2: &'a Vector) -> Vector
+    ensures { λ r. ⌜ r ≡ vop vectorBytes 4 operation (now (v1 .entry)) (now (v2 .entry)) ⌝ }
+{
+    if operation == ADD {
+        return each_four(ADD, v1, v2);
+    }
+    if operation == SUBTRACT {
+        return each_four(SUBTRACT, v1, v2);
+    }
+    if operation == MINIMUM {
+        return each_four(MINIMUM, v1, v2);
+    }
+    if operation == MAXIMUM {
+        return each_four(MAXIMUM, v1, v2);
+    }
+    if operation == SIGNED_MINIMUM {
+        return each_four(SIGNED_MINIMUM, v1, v2);
+    }
+    each_four(SIGNED_MAXIMUM, v1, v2)
+}
+
+pub(crate) fn eight<'a>(operation: u32, v1: &'a Vector, v2: &'a Vector) -> Vector
+    ensures { λ r. ⌜ r ≡ vop vectorBytes 8 operation (now (v1 .entry)) (now (v2 .entry)) ⌝ }
+{
+    if operation == ADD {
+        return each_eight(ADD, v1, v2);
+    }
+    if operation == SUBTRACT {
+        return each_eight(SUBTRACT, v1, v2);
+    }
+    if operation == MINIMUM {
+        return each_eight(MINIMUM, v1, v2);
+    }
+    if operation == MAXIMUM {
+        return each_eight(MAXIMUM, v1, v2);
+    }
+    if operation == SIGNED_MINIMUM {
+        return each_eight(SIGNED_MINIMUM, v1, v2);
+    }
+    each_eight(SIGNED_MAXIMUM, v1, v2)
+}
