@@ -1,0 +1,20 @@
+use mathlib.Core.Path.{ap}
+use Rattle.board.specs.Packed.{ofWithWork}
+use borrow.Author.Needs.{needs}
+use Rattle.board.proofs.sinkerjaw_run.Statement.{statement}
+use Rattle.board.proofs.sinkerjaw_run.Tie as tie
+
+run-requires : tie.Need-run-requires
+run-requires c κs = search needs
+
+packed-run-requires : tie.Need-packed-run-requires
+packed-run-requires c κs = search needs
+
+same-length : tie.Need-same-length
+same-length c = search needs
+
+returns : tie.Need-returns
+returns c = rw (c .packed-run .ensures) (ap ofWithWork (c .before .before .before .run .ensures))
+
+pub sinkerjaw-run-spec : {M : Type 1} → statement M
+sinkerjaw-run-spec = tie.close (tie.spec run-requires packed-run-requires same-length returns)

@@ -1,0 +1,36 @@
+use Rattle.machine.specs.Trying.{tryAs}
+use Rattle.rules.specs.Machine.{fieldsAs, reachesAs, effectAs}
+use borrow.Author.Tests.{le-ltb, lt-ltb}
+use borrow.Author.Needs.{needs}
+use Rattle.machine.proofs.instructions.do_load.Statement.{statement}
+use Rattle.machine.proofs.instructions.do_load.Tie as tie
+
+returns : tie.Need-returns
+unfolding tryAs fieldsAs reachesAs effectAs
+returns c = simp (le-ltb _ 1024 (c .if1 .taken))
+
+returns-2 : tie.Need-returns-2
+unfolding tryAs fieldsAs reachesAs effectAs
+returns-2 c = simp (lt-ltb _ 1024 (c .before .before .if1 .left), le-ltb _ 2 (c .if2 .taken))
+
+load-requires : tie.Need-load-requires
+load-requires c κs = search needs
+
+cast-v : tie.Need-cast-v
+cast-v c = search needs
+
+mul-v : tie.Need-mul-v
+mul-v c = search needs
+
+element-set-from-v : tie.Need-element-set-from-v
+element-set-from-v c = search needs
+
+returns-3 : tie.Need-returns-3
+unfolding tryAs fieldsAs reachesAs effectAs
+returns-3 c =
+    simp
+    (lt-ltb _ 1024 (c .before .before .before .before .if1 .left), lt-ltb _ 2 (c .before .before .if2 .left), c .before .load .ensures)
+
+pub do-load-spec : {M : Type 1} → statement M
+do-load-spec =
+    tie.close (tie.spec returns returns-2 load-requires cast-v mul-v element-set-from-v returns-3)

@@ -1,0 +1,91 @@
+use borrow.Author.Tests.{le-leb, lt-leb}
+use Rattle.rules.specs.Machine.{fieldsAs, reachesAs, effectAs}
+use borrow.Author.Tests.{not-true, not-false}
+use mathlib.Core.Path.{sym, _∙_}
+use Rattle.machine.proofs.InstructionLaws.{unknown-tried, effect-tried, registers-unknown, registers-fine, registers-below}
+use mathlib.Core.Path.{refl}
+use Rattle.rules.specs.Machine.{spliceKind}
+use borrow.Author.Needs.{needs}
+use Rattle.machine.proofs.instructions.do_splice.Statement.{statement}
+use Rattle.machine.proofs.instructions.do_splice.Tie as tie
+
+registers-known-requires : tie.Need-registers-known-requires
+registers-known-requires c κs = search needs
+
+returns : tie.Need-returns
+unfolding fieldsAs reachesAs
+returns c table j work =
+    let a = c .before .before .args in
+    unknown-tried spliceKind 0 table j (a .i) _ work
+    (registers-unknown (a .i) _ (sym (c .before .registers-known .ensures) ∙ not-true _ (c .if1 .taken)))
+
+returns-2 : tie.Need-returns-2
+unfolding fieldsAs reachesAs
+returns-2 c table j work =
+    let a = c .before .before .before .before .args in
+    unknown-tried spliceKind 0 table j (a .i) _ work
+    (registers-fine (a .i) _ (sym (c .before .before .before .registers-known .ensures) ∙ not-false _ (c .before .before .if1 .left)) ∙ lt-leb _ _ (c .if2 .taken))
+
+cast-vsplice : tie.Need-cast-vsplice
+cast-vsplice c = search needs
+
+mul-vsplice : tie.Need-mul-vsplice
+mul-vsplice c = search needs
+
+element-copy-out-vsplice : tie.Need-element-copy-out-vsplice
+element-copy-out-vsplice c =
+    registers-below (c .before .before .before .before .before .args .i)
+    (sym (c .before .before .before .before .registers-known .ensures) ∙ not-false _ (c .before .before .before .if1 .left)) .1
+
+cast-vsplice-2 : tie.Need-cast-vsplice-2
+cast-vsplice-2 c = search needs
+
+mul-vsplice-2 : tie.Need-mul-vsplice-2
+mul-vsplice-2 c = search needs
+
+element-copy-out-vsplice-2 : tie.Need-element-copy-out-vsplice-2
+element-copy-out-vsplice-2 c =
+    registers-below (c .before .before .before .before .before .before .before .args .i)
+    (sym (c .before .before .before .before .before .before .registers-known .ensures) ∙ not-false _ (c .before .before .before .before .before .if1 .left))
+    .2
+
+vsplice-requires : tie.Need-vsplice-requires
+vsplice-requires c κs = search needs
+
+cast-v : tie.Need-cast-v
+cast-v c = search needs
+
+mul-v : tie.Need-mul-v
+mul-v c = search needs
+
+element-set-from-v : tie.Need-element-set-from-v
+element-set-from-v c =
+    registers-below (c .before .before .before .before .before .before .before .before .before .before .args .i)
+    (sym (c .before .before .before .before .before .before .before .before .before .registers-known .ensures) ∙ not-false _ (c .before .before .before .before .before .before .before .before .if1 .left))
+    .0
+
+returns-3 : tie.Need-returns-3
+unfolding fieldsAs reachesAs effectAs
+returns-3 c table j work =
+    let a = c .before .before .before .before .before .before .before .before .before .before .args in
+    rw (c .before .vsplice .ensures)
+    (effect-tried spliceKind 0 table j (a .i) _ work refl (registers-fine (a .i) _ (sym (c .before .before .before .before .before .before .before .before .before .registers-known .ensures) ∙ not-false _ (c .before .before .before .before .before .before .before .before .if1 .left)) ∙ le-leb _ _ (c .before .before .before .before .before .before .if2 .left)))
+
+pub do-splice-spec : {M : Type 1} → statement M
+do-splice-spec =
+    tie.close
+    (tie.spec
+    registers-known-requires
+    returns
+    returns-2
+    cast-vsplice
+    mul-vsplice
+    element-copy-out-vsplice
+    cast-vsplice-2
+    mul-vsplice-2
+    element-copy-out-vsplice-2
+    vsplice-requires
+    cast-v
+    mul-v
+    element-set-from-v
+    returns-3)

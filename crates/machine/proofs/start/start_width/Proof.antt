@@ -1,0 +1,44 @@
+use mathlib.Core.Path.{_≡_, sym}
+use Rattle.rules.specs.Units.{isWidth}
+use Rattle.machine.proofs.StartLaws.{not-done, full-fault, width-found, no-width-fault}
+use Rattle.machine.proofs.start.start_width.Statement.{statement}
+use Rattle.machine.proofs.start.start_width.Tie as tie
+
+returns : tie.Need-returns
+returns c = (full-fault (c .before .before .args .head) (c .if1 .taken), λ e. not-done _ e)
+
+returns-2 : tie.Need-returns-2
+unfolding isWidth
+returns-2 c =
+    let h = c .before .before .before .args .head in
+    let e : h .d ≡ 1 = c .match .keys1 in
+    (width-found h (rw e) (c .before .if1 .left), sym e)
+
+returns-3 : tie.Need-returns-3
+unfolding isWidth
+returns-3 c =
+    let h = c .before .before .before .args .head in
+    let e : h .d ≡ 2 = c .match .keys2 in
+    (width-found h (rw e) (c .before .if1 .left), sym e)
+
+returns-4 : tie.Need-returns-4
+unfolding isWidth
+returns-4 c =
+    let h = c .before .before .before .args .head in
+    let e : h .d ≡ 4 = c .match .keys3 in
+    (width-found h (rw e) (c .before .if1 .left), sym e)
+
+returns-5 : tie.Need-returns-5
+unfolding isWidth
+returns-5 c =
+    let h = c .before .before .before .args .head in
+    let e : h .d ≡ 8 = c .match .keys4 in
+    (width-found h (rw e) (c .before .if1 .left), sym e)
+
+returns-6 : tie.Need-returns-6
+returns-6 c =
+    let r = c .match .rest in
+    (no-width-fault (c .before .before .before .args .head) (r .0 .0 .0 .1) (r .0 .0 .1) (r .0 .1) (r .1), λ e. not-done _ e)
+
+pub start-width-spec : {M : Type 1} → statement M
+start-width-spec = tie.close (tie.spec returns returns-2 returns-3 returns-4 returns-5 returns-6)
