@@ -1,3 +1,4 @@
 pub mod ElementLaws
 pub mod OperationLaws
 pub mod LaneLaws
+pub mod PairLaws

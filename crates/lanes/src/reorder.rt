@@ -1,48 +1,55 @@
 // Reordering the bytes of two vectors: sixteen bytes out of the two joined, and the first bytes of one with the rest of the other.
 ghost use mathlib.Core.Path.{_≡_};
-ghost use mathlib.Core.List.{_++_};
-ghost use Prim.Native.Nat.{_+_, _%_, _≤_};
-ghost use lib.ListN.{take, drop};
+ghost use Prim.Native.Nat.{_+_, _-_, _*_, _/_, _%_, _^_, _<_};
 ghost use Rattle.rules.specs.Limits.{vectorBytes};
 ghost use Rattle.rules.specs.Vectors.{vshiftpair, vsplice};
+use crate::elements;
+use crate::elements::EIGHT;
 use crate::elements::VECTOR_BYTES;
 use crate::elements::Vector;
 
-const PAIR_BYTES: usize = 2 * VECTOR_BYTES;
+// V and the bytes of an element of eight, as shifts count.
+const V: u64 = 16;
 
-fn joined(v1: Vector, v2: Vector) -> [u8; PAIR_BYTES]
-    ensures { λ r. ⌜ r ≡ v1 ++ v2 ⌝ }
+const HALF: u64 = 8;
+
+// The bits of one byte, and of the seven others of an element of eight.
+const BYTE_BITS: u64 = 8;
+
+const REST_BITS: u64 = 56;
+
+// The element of eight bytes that starts m bytes into the lower of two neighbours. The shift up goes in two steps: for m = 0 it is
+// by all 64 bits, and one step must be by fewer.
+fn straddling(low: u64, high: u64, m: u64) -> u64
+    requires { ⌜ m < 8 ⌝ }
+    ensures { λ r. ⌜ r ≡ low / 256 ^ m + 256 ^ (8 - m) * (high % 256 ^ m) ⌝ }
 {
-    let mut r = [0u8; PAIR_BYTES];
-    for i in 0..PAIR_BYTES {
-        r[i] = if i < VECTOR_BYTES {
-            v1[i]
-        } else {
-            v2[i - VECTOR_BYTES]
-        };
-    }
-    r
+    let bits = BYTE_BITS * m;
+    let rest = REST_BITS - bits;
+    let below = low >> bits;
+    let above = high << BYTE_BITS << rest;
+    below + above
 }
 
-fn part(pair: [u8; PAIR_BYTES], at: usize) -> Vector
-    requires { ⌜ at ≤ vectorBytes ⌝ }
-    ensures { λ r. ⌜ r ≡ take vectorBytes (drop at pair) ⌝ }
-{
-    let mut r = [0u8; VECTOR_BYTES];
-    for i in 0..VECTOR_BYTES {
-        let place = at + i;
-        r[i] = pair[place];
-    }
-    r
-}
-
-// The amount is reduced, so no caller has anything to check first.
+// Two elements of eight bytes, each out of two neighbours among the four of the pair: the vectors are never laid side by side in
+// memory, since a load across what was just stored in pieces waits for the stores. The amount is reduced, so no caller has
+// anything to check first.
 pub(crate) fn shift_pair(v1: Vector, v2: Vector, amount: u32) -> Vector
     ensures { λ r. ⌜ r ≡ vshiftpair vectorBytes v1 v2 (amount % vectorBytes) ⌝ }
 {
-    let at = (amount as usize) % VECTOR_BYTES;
-    let pair = joined(v1, v2);
-    part(pair, at)
+    let at = (amount as u64) % V;
+    let m = at % HALF;
+    let second = elements::eight_at(&v1, EIGHT);
+    let third = elements::eight_at(&v2, 0);
+    let middle = straddling(second, third, m);
+    if at < HALF {
+        let first = elements::eight_at(&v1, 0);
+        let lowest = straddling(first, second, m);
+        return elements::join_eight([lowest, middle]);
+    }
+    let fourth = elements::eight_at(&v2, EIGHT);
+    let highest = straddling(third, fourth, m);
+    elements::join_eight([middle, highest])
 }
 
 // Every byte is chosen by its own test: a loop that stops at the amount would go byte by byte.
