@@ -1,7 +1,7 @@
 -- Elements once over their width: one of d + e bytes is one of d and one of e, and its bytes are the bytes of the two.
 -- Assumes nothing.
 use Prim.Native.Nat.{ℕ, zero, suc, _+_, _*_, _/_, _%_, _^_, _≤_, _<_}
-use mathlib.Core.Path.{_≡_, refl, ap}
+use mathlib.Core.Path.{_≡_, refl, sym, ap, _∙_}
 use mathlib.Core.List.{List, [], _∷_, _++_}
 use native.Mathlib.Omega.{arith}
 use native.Mathlib.Nat.{pow-zero, pow-suc, zero-add, add-zero, one-mul, suc-add, mul-comm, mul-assoc, div-one, div-div-eq-div-mul, div-eq-of-lt, mod-eq-of-lt, add-mul-div-left, add-mul-mod-self-left}
@@ -102,3 +102,11 @@ toBytes-join (suc d) e v =
 -- the halves of a number's bytes, each cut to its width
 pub toBytes-halves : (d v : ℕ) → toBytes d (v % 256 ^ d) ++ toBytes d (v / 256 ^ d % 256 ^ d) ≡ toBytes (d + d) v
 toBytes-halves d v = rw (toBytes-mod d v, toBytes-mod d (v / 256 ^ d)) (toBytes-join d d v)
+
+-- a value in both halves of twice its bytes
+pub toBytes-doubled : (d v : ℕ) → v < 256 ^ d → toBytes (d + d) (v + 256 ^ d * v) ≡ toBytes d v ++ toBytes d v
+toBytes-doubled d v h =
+    let w = v + 256 ^ d * v in
+    let p : w / 256 ^ d ≡ v = add-mul-div-left v v (pow-pos d) ∙ rw (div-eq-of-lt h, zero-add) in
+    let q : toBytes d w ≡ toBytes d v = sym (toBytes-mod d w) ∙ ap (toBytes d) (add-mul-mod-self-left v (256 ^ d) v) ∙ toBytes-mod d v in
+    sym (toBytes-join d d w) ∙ rw (p, q)

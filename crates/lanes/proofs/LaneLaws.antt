@@ -2,7 +2,7 @@
 -- Assumes nothing.
 use Prim.Native.Nat.{ℕ, zero, suc, _+_, _-_, _*_, _/_, _%_, _^_, _≤_, _<_}
 use mathlib.Core.Path.{_≡_, refl, sym, ap, _∙_}
-use mathlib.Core.List.{List, _++_}
+use mathlib.Core.List.{List, _++_, append-assoc}
 use native.Mathlib.Omega.{arith}
 use native.Mathlib.Nat.{mod-eq-of-lt, mul-one}
 use lib.ListN.{length, getD, take, drop, set, replicate, length-append, length-take, length-drop, List·getD-append}
@@ -11,7 +11,7 @@ use Rattle.rules.specs.Elements.{toBytes, element, operate}
 use Rattle.rules.specs.Vectors.{lanes, vop, vsplice}
 use Rattle.theory.proofs.Lists.{split, length-lanes, getD-lanes, getD-pastˡ, splice-right}
 use Rattle.theory.proofs.Numbers.{Bytes, length-toBytes}
-use Rattle.lanes.proofs.ElementLaws.{element-one, toBytes-mod, toBytes-halves}
+use Rattle.lanes.proofs.ElementLaws.{element-one, toBytes-mod, toBytes-halves, toBytes-doubled}
 use Rattle.lanes.proofs.OperationLaws.{above}
 
 -- the first n places of r are as f says
@@ -56,6 +56,16 @@ halves-joined d n x =
 -- a value cut to its width before it is repeated
 pub cut-lanes : (D n v : ℕ) → lanes n (λ k. toBytes D (v % 256 ^ D)) ≡ lanes n (λ k. toBytes D v)
 cut-lanes D n v = lanes-ext n (λ k. toBytes D (v % 256 ^ D)) (λ k. toBytes D v) (λ k l. toBytes-mod D v)
+
+lanes-doubled : (n : ℕ) (x : List ℕ) → lanes n (λ k. x ++ x) ≡ lanes (n + n) (λ k. x)
+lanes-doubled zero x = refl
+lanes-doubled (suc n) x =
+    let e : suc n + suc n ≡ suc (suc (n + n)) = omega arith in
+    rw (e, lanes-doubled n x) (sym (append-assoc (lanes (n + n) (λ k. x)) x x))
+
+-- a value in every element of d bytes is one of 2d bytes, with the value in both halves, in every element of 2d
+pub splat-doubled : (d n v : ℕ) → v < 256 ^ d → lanes n (λ k. toBytes (d + d) (v + 256 ^ d * v)) ≡ lanes (n + n) (λ k. toBytes d v)
+splat-doubled d n v h = rw (toBytes-doubled d v h) (lanes-doubled n (toBytes d v))
 
 -- bytes are elements of one byte
 pub bytes-lanes : (r : List ℕ) → Bytes r → r ≡ lanes (length r) (λ k. toBytes 1 (getD r k 0))

@@ -3,3 +3,5 @@ pub mod StartLaws
 pub mod InstructionLaws
 pub mod PassLaws
 pub mod Outcomes
+pub mod SpreadLaws
+pub mod WidthLaws

@@ -1,3 +1,4 @@
 pub mod Places
 pub mod Trying
 pub mod Running
+pub mod Spreading

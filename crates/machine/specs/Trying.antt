@@ -3,10 +3,11 @@
 use Prim.Native.Nat.{ℕ}
 use mathlib.Core.Path.{_≡_}
 use mathlib.Core.Bool.{Bool, true, false, cond, _&&_}
-use mathlib.Core.List.{List}
+use mathlib.Core.List.{List, []}
 use lib.Dec.{ltb}
-use lib.ListN.{length}
+use lib.ListN.{length, getD, set}
 use Rattle.rules.specs.Limits.{vectorBytes, registers}
+use Rattle.rules.specs.Vectors.{vop}
 use Rattle.rules.specs.Machine.{State, soundAs, effectAs}
 use Rattle.rules.specs.declared.program.Instruction.{Instruction}
 
@@ -32,6 +33,10 @@ tryAs kind D table j i regs work =
 -- the three registers of an instruction that reads two
 abbrev pub registersKnown : Instruction → Bool
 registersKnown i = ltb (i .destination) registers && (ltb (i .a) registers && ltb (i .b) registers)
+
+-- the registers that an operation on elements of D bytes leaves
+abbrev pub operated : (D : ℕ) → Instruction → List (List ℕ) → List (List ℕ)
+operated D i regs = set regs (i .destination) (vop vectorBytes D (i .low) (getD regs (i .a) []) (getD regs (i .b) []))
 
 -- what an instruction that goes by registers alone does: work stays, whatever it is, in any pass
 abbrev pub Tries : (kind D : ℕ) → Instruction → Bool → (before after : List (List ℕ)) → Type 0

@@ -4,6 +4,7 @@ use crate::blocks::Place;
 use crate::blocks::load;
 use crate::blocks::place_of;
 use crate::blocks::store;
+use crate::elements::Element;
 use rules::program::Instruction;
 use rules::units::VectorNumber;
 use rules::units::Width;
@@ -11,12 +12,11 @@ ghost use mathlib.Core.Path.{_≡_};
 ghost use mathlib.Core.List.{[]};
 ghost use Prim.Native.Nat.{_≤_, _<_};
 ghost use Rattle.rules.specs.Limits.{vectorBytes, fullMost, registers};
-ghost use lib.ListN.{getD};
-ghost use Rattle.rules.specs.Vectors.{vop};
 ghost use Rattle.rules.specs.Units.{widthBytes};
 ghost use Rattle.rules.specs.Frames.{loadKind, splatKind, opKind};
 ghost use Rattle.rules.specs.Machine.{pairKind, spliceKind, storeKind, splatValue};
-ghost use Rattle.machine.specs.Trying.{tried, tryAs, Tries, anyWidth, registersKnown};
+ghost use Rattle.machine.specs.Trying.{tried, tryAs, Tries, anyWidth, registersKnown, operated};
+ghost use Rattle.machine.specs.Spreading.{Spreads};
 
 const REGISTERS: u32 = 1024;
 
@@ -69,36 +69,65 @@ fn do_load<'a>(
     true
 }
 
-fn do_splat(width: Width, i: Instruction, registers: &mut [[u8; 16]; 1024]) -> bool
-    ensures { λ r. ⌜ Tries splatKind (widthBytes width) i r (now (registers .entry)) (now (registers .exit)) ⌝ }
+// One product is the value in every element of eight bytes, whatever the width.
+fn do_splat(element: Element, i: Instruction, registers: &mut [[u8; 16]; 1024]) -> bool
+    requires { ⌜ Spreads element ⌝ }
+    ensures { λ r. ⌜ Tries splatKind (widthBytes (element .width)) i r (now (registers .entry)) (now (registers .exit)) ⌝ }
 {
     if REGISTERS <= i.destination {
         return false;
     }
     let value = splat_value(i);
-    if !lanes::fits(width, value) {
+    if element.largest < value {
         return false;
     }
-    let v = lanes::vsplat(width, value);
+    let spread = value * element.ones;
+    let v = lanes::vsplat(Width::Eight, spread);
     registers[i.destination as usize] = v;
     true
 }
 
-// The width is gone by before the registers are copied: each copy is then read at one width only.
-fn op_value(width: Width, i: Instruction, file: &[[u8; 16]; 1024]) -> [u8; 16]
-    requires { ⌜ (i .a < registers) × (i .b < registers) ⌝ }
-    ensures { λ v. ⌜ v ≡ vop vectorBytes (widthBytes width) (i .low) (getD (now (file .entry)) (i .a) []) (getD (now (file .entry)) (i .b) []) ⌝ }
+// The width is gone by before the registers are copied, and each width writes its own result: each copy is then read at one width
+// only, and no result is put together from the pieces of four.
+fn op_narrow(width: Width, i: Instruction, file: &mut [[u8; 16]; 1024])
+    requires { ⌜ (i .destination < registers) × (i .a < registers) × (i .b < registers) × (widthBytes width ≤ 2) ⌝ }
+    ensures { λ _. ⌜ now (file .exit) ≡ operated (widthBytes width) i (now (file .entry)) ⌝ }
 {
+    let d = i.destination as usize;
     let a = i.a as usize;
     let b = i.b as usize;
     match width {
-        Width::One => lanes::vop_one(i.low, file[a], file[b]),
-        Width::Two => lanes::vop_two(i.low, file[a], file[b]),
-        Width::Four => lanes::vop_four(i.low, file[a], file[b]),
-        Width::Eight => lanes::vop_eight(i.low, file[a], file[b]),
+        Width::One => {
+            let v = lanes::vop_one(i.low, file[a], file[b]);
+            file[d] = v;
+        }
+        _ => {
+            let v = lanes::vop_two(i.low, file[a], file[b]);
+            file[d] = v;
+        }
     }
 }
 
+fn op_wide(width: Width, i: Instruction, file: &mut [[u8; 16]; 1024])
+    requires { ⌜ (i .destination < registers) × (i .a < registers) × (i .b < registers) × (4 ≤ widthBytes width) ⌝ }
+    ensures { λ _. ⌜ now (file .exit) ≡ operated (widthBytes width) i (now (file .entry)) ⌝ }
+{
+    let d = i.destination as usize;
+    let a = i.a as usize;
+    let b = i.b as usize;
+    match width {
+        Width::Four => {
+            let v = lanes::vop_four(i.low, file[a], file[b]);
+            file[d] = v;
+        }
+        _ => {
+            let v = lanes::vop_eight(i.low, file[a], file[b]);
+            file[d] = v;
+        }
+    }
+}
+
+// By halves: of four widths the compiler would make a jump through a table, which costs more than two tests.
 fn do_op(width: Width, i: Instruction, registers: &mut [[u8; 16]; 1024]) -> bool
     ensures { λ r. ⌜ Tries opKind (widthBytes width) i r (now (registers .entry)) (now (registers .exit)) ⌝ }
 {
@@ -108,8 +137,10 @@ fn do_op(width: Width, i: Instruction, registers: &mut [[u8; 16]; 1024]) -> bool
     if OPERATIONS <= i.low {
         return false;
     }
-    let v = op_value(width, i, registers);
-    registers[i.destination as usize] = v;
+    match width {
+        Width::One | Width::Two => op_narrow(width, i, registers),
+        Width::Four | Width::Eight => op_wide(width, i, registers),
+    }
     true
 }
 
@@ -164,20 +195,21 @@ fn do_store(
 }
 
 pub(crate) fn act(
-    width: Width,
+    element: Element,
     i: Instruction,
     pass: VectorNumber,
     registers: &mut [[u8; 16]; 1024],
     work: &mut [u8],
     table: &[u8],
 ) -> bool
-    requires { ⌜ pass .0 ≤ fullMost vectorBytes ⌝ }
-    ensures { λ r. ⌜ tried r (now (registers .exit)) (now (work .exit)) ≡ tryAs (i .kind) (widthBytes width) (now (table .entry)) (pass .0) i (now (registers .entry)) (now (work .entry)) ⌝ }
+    requires { ⌜ Spreads element × (pass .0 ≤ fullMost vectorBytes) ⌝ }
+    ensures { λ r. ⌜ tried r (now (registers .exit)) (now (work .exit)) ≡ tryAs (i .kind) (widthBytes (element .width)) (now (table .entry)) (pass .0) i (now (registers .entry)) (now (work .entry)) ⌝ }
 {
+    let width = element.width;
     let kind = i.kind;
     match kind {
         1 => do_load(i, pass, registers, work, table),
-        2 => do_splat(width, i, registers),
+        2 => do_splat(element, i, registers),
         3 => do_op(width, i, registers),
         4 => do_pair(i, registers),
         5 => do_splice(i, registers),

@@ -1,5 +1,6 @@
 // The instructions of a program in their order: a section in one pass, the body's passes, and the three sections of a run.
 // A run that goes on is Done so far; one that has stopped is Out or Fault, with the steps done.
+use crate::elements::element_of;
 use crate::instructions::act;
 use rules::answers::RunAnswer;
 use rules::program::Instruction;
@@ -56,6 +57,7 @@ fn section_pass(
     ensures { λ r. ⌜ stood r (now (registers .exit)) (now (work .exit)) ≡ runs vectorBytes (widthBytes (run .width)) (now (table .entry)) (run .budget) (standing DONE (run .steps) (state (now (registers .entry)) (now (work .entry)))) (inPass (pass .0) (instructionsFrom (now (section .entry)) 0 rows)) ⌝ }
 {
     let width = run.width;
+    let element = element_of(width);
     let budget = run.budget;
     let mut steps = run.steps;
     let mut row = 0;
@@ -64,7 +66,7 @@ fn section_pass(
             return RunAnswer::Out(steps);
         }
         let i = instruction_at(section, row as usize);
-        if act(width, i, pass, registers, work, table) {
+        if act(element, i, pass, registers, work, table) {
             steps = steps + 1;
         } else {
             return RunAnswer::Fault(steps);

@@ -29,33 +29,38 @@ same-length c = search needs
 returns : tie.Need-returns
 returns c =
     let a = c .before .before .before .before .before .before .args in
-    of-kind (a .i .kind) (widthBytes (a .width)) (a .table .now) (a .pass .0) (a .i) _ _ 1
+    let D = widthBytes (a .element .width) in
+    of-kind (a .i .kind) D (a .table .now) (a .pass .0) (a .i) _ _ 1
     (c .before .before .before .match .keys1) _
-    (c .do-load .ensures ∙ load-by-bytes (a .i .kind) (widthBytes (a .width)) (a .table .now) (a .pass .0) (a .i) _ _)
+    (c .do-load .ensures ∙ load-by-bytes (a .i .kind) D (a .table .now) (a .pass .0) (a .i) _ _)
 
 returns-2 : tie.Need-returns-2
 returns-2 c =
     let a = c .before .before .before .before .before .args in
-    of-kind (a .i .kind) (widthBytes (a .width)) (a .table .now) (a .pass .0) (a .i) _ _ 2 (c .before .before .match .keys2) _
+    let D = widthBytes (a .element .width) in
+    of-kind (a .i .kind) D (a .table .now) (a .pass .0) (a .i) _ _ 2 (c .before .before .match .keys2) _
     (c .do-splat .ensures _ _ _)
 
 returns-3 : tie.Need-returns-3
 returns-3 c =
     let a = c .before .before .before .before .before .args in
-    of-kind (a .i .kind) (widthBytes (a .width)) (a .table .now) (a .pass .0) (a .i) _ _ 3 (c .before .before .match .keys3) _
+    let D = widthBytes (a .element .width) in
+    of-kind (a .i .kind) D (a .table .now) (a .pass .0) (a .i) _ _ 3 (c .before .before .match .keys3) _
     (c .do-op .ensures _ _ _)
 
 returns-4 : tie.Need-returns-4
 returns-4 c =
     let a = c .before .before .before .before .before .args in
-    of-kind (a .i .kind) (widthBytes (a .width)) (a .table .now) (a .pass .0) (a .i) _ _ 4 (c .before .before .match .keys4) _
-    (c .do-pair .ensures (a .table .now) (a .pass .0) _ ∙ pair-by-bytes (a .i .kind) (widthBytes (a .width)) (a .table .now) (a .pass .0) (a .i) _ _)
+    let D = widthBytes (a .element .width) in
+    of-kind (a .i .kind) D (a .table .now) (a .pass .0) (a .i) _ _ 4 (c .before .before .match .keys4) _
+    (c .do-pair .ensures (a .table .now) (a .pass .0) _ ∙ pair-by-bytes (a .i .kind) D (a .table .now) (a .pass .0) (a .i) _ _)
 
 returns-5 : tie.Need-returns-5
 returns-5 c =
     let a = c .before .before .before .before .before .args in
-    of-kind (a .i .kind) (widthBytes (a .width)) (a .table .now) (a .pass .0) (a .i) _ _ 5 (c .before .before .match .keys5) _
-    (c .do-splice .ensures (a .table .now) (a .pass .0) _ ∙ splice-by-bytes (a .i .kind) (widthBytes (a .width)) (a .table .now) (a .pass .0) (a .i) _ _)
+    let D = widthBytes (a .element .width) in
+    of-kind (a .i .kind) D (a .table .now) (a .pass .0) (a .i) _ _ 5 (c .before .before .match .keys5) _
+    (c .do-splice .ensures (a .table .now) (a .pass .0) _ ∙ splice-by-bytes (a .i .kind) D (a .table .now) (a .pass .0) (a .i) _ _)
 
 same-length-2 : tie.Need-same-length-2
 same-length-2 c = search needs
@@ -63,15 +68,17 @@ same-length-2 c = search needs
 returns-6 : tie.Need-returns-6
 returns-6 c =
     let a = c .before .before .before .before .before .before .before .before .args in
-    of-kind (a .i .kind) (widthBytes (a .width)) (a .table .now) (a .pass .0) (a .i) _ _ 6
+    let D = widthBytes (a .element .width) in
+    of-kind (a .i .kind) D (a .table .now) (a .pass .0) (a .i) _ _ 6
     (c .before .before .before .before .before .match .keys6) _
-    (c .before .before .do-store .ensures ∙ store-by-bytes (a .i .kind) (widthBytes (a .width)) (a .table .now) (a .pass .0) (a .i) _ _)
+    (c .before .before .do-store .ensures ∙ store-by-bytes (a .i .kind) D (a .table .now) (a .pass .0) (a .i) _ _)
 
 returns-7 : tie.Need-returns-7
 returns-7 c =
     let a = c .before .before .before .args in
+    let D = widthBytes (a .element .width) in
     let r = c .match .rest in
-    no-kind (a .i .kind) (widthBytes (a .width)) (a .table .now) (a .pass .0) (a .i) _ _ (r .0 .0 .0 .0 .0 .1)
+    no-kind (a .i .kind) D (a .table .now) (a .pass .0) (a .i) _ _ (r .0 .0 .0 .0 .0 .1)
     (r .0 .0 .0 .0 .1) (r .0 .0 .0 .1) (r .0 .0 .1) (r .0 .1) (r .1)
 
 pub act-spec : {M : Type 1} → statement M

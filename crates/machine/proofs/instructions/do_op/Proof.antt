@@ -1,10 +1,12 @@
+-- `do_op`: a fault by the fields, or the operation at a narrow or a wide width.
 use mathlib.Core.Path.{refl, sym, _∙_}
+use borrow.Author.Needs.{needs}
 use borrow.Author.Tests.{le-ltb, lt-ltb, not-true, not-false}
 use Rattle.rules.specs.Units.{widthBytes}
 use Rattle.rules.specs.Frames.{opKind}
 use Rattle.rules.specs.Machine.{fieldsAs, reachesAs, effectAs}
 use Rattle.machine.proofs.InstructionLaws.{unknown-tried, effect-tried, registers-unknown, registers-fine, registers-below}
-use borrow.Author.Needs.{needs}
+use Rattle.machine.proofs.WidthLaws.{narrow, wide}
 use Rattle.machine.proofs.instructions.do_op.Statement.{statement}
 use Rattle.machine.proofs.instructions.do_op.Tie as tie
 
@@ -15,50 +17,57 @@ returns : tie.Need-returns
 unfolding fieldsAs
 returns c table j work =
     let a = c .before .before .args in
-    unknown-tried opKind (widthBytes (a .width)) table j (a .i) _ work
-    (registers-unknown (a .i) _ (sym (c .before .registers-known .ensures) ∙ not-true _ (c .if1 .taken)))
+    let unknown = sym (c .before .registers-known .ensures) ∙ not-true _ (c .if1 .taken) in
+    unknown-tried opKind (widthBytes (a .width)) table j (a .i) _ work (registers-unknown (a .i) _ unknown)
 
 returns-2 : tie.Need-returns-2
 unfolding fieldsAs
 returns-2 c table j work =
-    let a = c .before .before .before .before .args in
+    let at-registers = c .before .before .before in
+    let a = at-registers .before .args in
+    let known = sym (at-registers .registers-known .ensures) ∙ not-false _ (c .before .before .if1 .left) in
     unknown-tried opKind (widthBytes (a .width)) table j (a .i) _ work
-    (registers-fine (a .i) _ (sym (c .before .before .before .registers-known .ensures) ∙ not-false _ (c .before .before .if1 .left)) ∙ le-ltb _ _ (c .if2 .taken))
+    (registers-fine (a .i) _ known ∙ le-ltb _ _ (c .if2 .taken))
 
-op-value-requires : tie.Need-op-value-requires
-op-value-requires c κs =
-    let r = registers-below (c .before .before .before .before .before .args .i)
-    (sym (c .before .before .before .before .registers-known .ensures) ∙ not-false _ (c .before .before .before .if1 .left)) in
-    (r .1, r .2)
+op-narrow-requires : tie.Need-op-narrow-requires
+op-narrow-requires c κs =
+    let at-registers = c .before .before .before .before .before in
+    let a = at-registers .before .args in
+    let known = sym (at-registers .registers-known .ensures) ∙ not-false _ (c .before .before .before .before .if1 .left) in
+    let r = registers-below (a .i) known in
+    (r .0, r .1, r .2, narrow (a .width) (c .before .match .keys1))
 
-cast-v : tie.Need-cast-v
-cast-v c = search needs
-
-mul-v : tie.Need-mul-v
-mul-v c = search needs
-
-element-set-from-v : tie.Need-element-set-from-v
-element-set-from-v c =
-    registers-below (c .before .before .before .before .before .before .before .args .i)
-    (sym (c .before .before .before .before .before .before .registers-known .ensures) ∙ not-false _ (c .before .before .before .before .before .if1 .left))
-    .0
+op-wide-requires : tie.Need-op-wide-requires
+op-wide-requires c κs =
+    let at-registers = c .before .before .before .before .before in
+    let a = at-registers .before .args in
+    let known = sym (at-registers .registers-known .ensures) ∙ not-false _ (c .before .before .before .before .if1 .left) in
+    let r = registers-below (a .i) known in
+    (r .0, r .1, r .2, wide (a .width) (c .before .match .keys2))
 
 returns-3 : tie.Need-returns-3
 unfolding fieldsAs reachesAs effectAs
 returns-3 c table j work =
-    let a = c .before .before .before .before .before .before .before .args in
-    rw (c .before .op-value .ensures)
-    (effect-tried opKind (widthBytes (a .width)) table j (a .i) _ work refl (registers-fine (a .i) _ (sym (c .before .before .before .before .before .before .registers-known .ensures) ∙ not-false _ (c .before .before .before .before .before .if1 .left)) ∙ lt-ltb _ _ (c .before .before .before .if2 .left)))
+    let at-operation = c .before .before .before in
+    let at-registers = at-operation .before .before .before in
+    let a = at-registers .before .args in
+    let known = sym (at-registers .registers-known .ensures) ∙ not-false _ (at-operation .before .before .if1 .left) in
+    rw (c .op-narrow .ensures)
+    (effect-tried opKind (widthBytes (a .width)) table j (a .i) _ work refl
+    (registers-fine (a .i) _ known ∙ lt-ltb _ _ (at-operation .if2 .left)))
+
+returns-4 : tie.Need-returns-4
+unfolding fieldsAs reachesAs effectAs
+returns-4 c table j work =
+    let at-operation = c .before .before .before in
+    let at-registers = at-operation .before .before .before in
+    let a = at-registers .before .args in
+    let known = sym (at-registers .registers-known .ensures) ∙ not-false _ (at-operation .before .before .if1 .left) in
+    rw (c .op-wide .ensures)
+    (effect-tried opKind (widthBytes (a .width)) table j (a .i) _ work refl
+    (registers-fine (a .i) _ known ∙ lt-ltb _ _ (at-operation .if2 .left)))
 
 pub do-op-spec : {M : Type 1} → statement M
 do-op-spec =
     tie.close
-    (tie.spec
-    registers-known-requires
-    returns
-    returns-2
-    op-value-requires
-    cast-v
-    mul-v
-    element-set-from-v
-    returns-3)
+    (tie.spec registers-known-requires returns returns-2 op-narrow-requires op-wide-requires returns-3 returns-4)

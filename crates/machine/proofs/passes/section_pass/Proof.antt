@@ -14,16 +14,19 @@ use Rattle.machine.proofs.passes.section_pass.Statement.{statement}
 use Rattle.machine.proofs.passes.section_pass.Tie as tie
 
 abbrev Inv-loop : tie.InvT-loop
-Inv-loop section rows pass registers₀ work₀ table width budget steps₀ row₀ registers work steps row =
+Inv-loop section rows pass registers₀ work₀ table element budget steps₀ row₀ registers work steps row =
     (row ≤ rows)
     × (length work ≡ length work₀)
-    × (runs vectorBytes (widthBytes width) table budget (standing DONE steps (state registers work))
+    × (runs vectorBytes (widthBytes (element .width)) table budget (standing DONE steps (state registers work))
     (inPass (pass .0) (instructionsFrom section row (rows - row)))
-    ≡ runs vectorBytes (widthBytes width) table budget (standing DONE steps₀ (state registers₀ work₀))
+    ≡ runs vectorBytes (widthBytes (element .width)) table budget (standing DONE steps₀ (state registers₀ work₀))
     (inPass (pass .0) (instructionsFrom section 0 rows)))
 
 abbrev μ-loop : tie.MeasureT-loop
-μ-loop section rows pass registers₀ work₀ table width budget steps₀ row₀ registers work steps row = rows - row
+μ-loop section rows pass registers₀ work₀ table element budget steps₀ row₀ registers work steps row = rows - row
+
+element-of-requires : tie.Need-element-of-requires Inv-loop μ-loop
+element-of-requires c κs = search needs
 
 loop-holds : tie.Need-loop-holds Inv-loop μ-loop
 loop-holds c = (omega arith, refl, rw sub-zero)
@@ -34,16 +37,18 @@ same-length c = search needs
 returns : tie.Need-returns Inv-loop μ-loop
 returns c =
     let l = c .before .before .loop in
-    let a = c .before .before .before .before .before .before .args in
-    out-first (widthBytes (a .run .width)) (a .table .now) (a .run .budget) (a .section .now) (a .pass .0) (l .row) (a .rows)
+    let e = c .before .before .before .element-of in
+    let a = c .before .before .before .before .before .before .before .args in
+    rw (← e .ensures .0)
+    (out-first (widthBytes (e .result .width)) (a .table .now) (a .run .budget) (a .section .now) (a .pass .0) (l .row) (a .rows)
     (c .before .loop-test .taken) (l .steps) (l .registers) (l .work) (c .if1 .taken)
-    ∙ l .inv .2
+    ∙ l .inv .2)
 
 instruction-at-requires : tie.Need-instruction-at-requires Inv-loop μ-loop
 instruction-at-requires c κs = search needs
 
 act-requires : tie.Need-act-requires Inv-loop μ-loop
-act-requires c κs = search needs
+act-requires c κs = (c .before .before .before .before .before .before .element-of .ensures .1, search needs)
 
 add-steps : tie.Need-add-steps Inv-loop μ-loop
 add-steps c = search needs
@@ -56,11 +61,13 @@ returns-2 c =
     let t = c .before .before .before in
     let u = t .before .before .before in
     let l = u .before .before .before .loop in
-    let a = u .before .before .before .before .before .before .before .args in
-    let e = rw (u .instruction-at .ensures, c .if2 .left) at (t .act .ensures) in
-    fault-first (widthBytes (a .run .width)) (a .table .now) (a .run .budget) (a .section .now) (a .pass .0) (l .row) (a .rows)
-    (u .before .before .loop-test .taken) (l .steps) (l .registers) (l .work) _ _ (u .before .if1 .left) e
-    ∙ l .inv .2
+    let e = u .before .before .before .before .element-of in
+    let a = u .before .before .before .before .before .before .before .before .args in
+    let acted = rw (u .instruction-at .ensures, c .if2 .left) at (t .act .ensures) in
+    rw (← e .ensures .0)
+    (fault-first (widthBytes (e .result .width)) (a .table .now) (a .run .budget) (a .section .now) (a .pass .0) (l .row) (a .rows)
+    (u .before .before .loop-test .taken) (l .steps) (l .registers) (l .work) _ _ (u .before .if1 .left) acted
+    ∙ l .inv .2)
 
 add-row : tie.Need-add-row Inv-loop μ-loop
 add-row c = search needs
@@ -73,12 +80,13 @@ loop-again c =
     let t = c .before .before .before in
     let u = t .before .before .before in
     let l = u .before .before .before .loop in
-    let a = u .before .before .before .before .before .before .before .args in
-    let e = rw (u .instruction-at .ensures, c .if2 .taken) at (t .act .ensures) in (
+    let e = u .before .before .before .before .element-of in
+    let a = u .before .before .before .before .before .before .before .before .args in
+    let acted = rw (u .instruction-at .ensures, c .if2 .taken) at (t .act .ensures) in (
       omega arith,
       search needs,
-      step-first (widthBytes (a .run .width)) (a .table .now) (a .run .budget) (a .section .now) (a .pass .0) (l .row) (a .rows)
-          (u .before .before .loop-test .taken) (l .steps) (l .registers) (l .work) _ _ (u .before .if1 .left) e
+      step-first (widthBytes (e .result .width)) (a .table .now) (a .run .budget) (a .section .now) (a .pass .0) (l .row) (a .rows)
+          (u .before .before .loop-test .taken) (l .steps) (l .registers) (l .work) _ _ (u .before .if1 .left) acted
           ∙ l .inv .2,
     )
 
@@ -89,8 +97,9 @@ returns-3 : tie.Need-returns-3 Inv-loop μ-loop
 unfolding runs
 returns-3 c =
     let l = c .before .loop in
-    let a = c .before .before .before .before .before .args in
-    rw (rows-none (a .section .now) (a .pass .0) (l .row) (a .rows) (c .loop-test .left)) at (l .inv .2)
+    let a = c .before .before .before .before .before .before .args in
+    rw (← c .before .before .element-of .ensures .0)
+    (rw (rows-none (a .section .now) (a .pass .0) (l .row) (a .rows) (c .loop-test .left)) at (l .inv .2))
 
 pub section-pass-spec : {M : Type 1} → statement M
 section-pass-spec =
@@ -98,6 +107,7 @@ section-pass-spec =
     (tie.spec
     Inv-loop
     μ-loop
+    element-of-requires
     loop-holds
     same-length
     returns
