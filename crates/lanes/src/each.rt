@@ -1,6 +1,6 @@
 // An operation on every pair of elements of two vectors, a loop for each width. The operation is handed to the loop as a constant,
-// so that the compiler has a loop for each of the six and makes vector instructions of it. It is found by halves: a chain of tests
-// for equality the compiler would make a jump through a table, which costs more than two or three tests.
+// so that the compiler has a loop for each of the six and makes vector instructions of it. It is found in two
+// threes: of six tests for equality in a row the compiler would make a jump through a table, which costs more than a few tests.
 ghost use mathlib.Core.Path.{_≡_};
 ghost use Rattle.rules.specs.Limits.{vectorBytes};
 ghost use Rattle.rules.specs.Vectors.{vop};
@@ -77,16 +77,16 @@ fn each_eight<'a>(operation: u32, v1: &'a Vector, v2: &'a Vector) -> Vector
 pub(crate) fn one<'a>(operation: u32, v1: &'a Vector, v2: &'a Vector) -> Vector
     ensures { λ r. ⌜ r ≡ vop vectorBytes 1 operation (now (v1 .entry)) (now (v2 .entry)) ⌝ }
 {
-    if operation < MINIMUM {
+    if operation < MAXIMUM {
         if operation == ADD {
             return each_one(ADD, v1, v2);
         }
-        return each_one(SUBTRACT, v1, v2);
-    }
-    if operation < SIGNED_MINIMUM {
-        if operation == MINIMUM {
-            return each_one(MINIMUM, v1, v2);
+        if operation == SUBTRACT {
+            return each_one(SUBTRACT, v1, v2);
         }
+        return each_one(MINIMUM, v1, v2);
+    }
+    if operation == MAXIMUM {
         return each_one(MAXIMUM, v1, v2);
     }
     if operation == SIGNED_MINIMUM {
@@ -98,16 +98,16 @@ pub(crate) fn one<'a>(operation: u32, v1: &'a Vector, v2: &'a Vector) -> Vector
 pub(crate) fn two<'a>(operation: u32, v1: &'a Vector, v2: &'a Vector) -> Vector
     ensures { λ r. ⌜ r ≡ vop vectorBytes 2 operation (now (v1 .entry)) (now (v2 .entry)) ⌝ }
 {
-    if operation < MINIMUM {
+    if operation < MAXIMUM {
         if operation == ADD {
             return each_two(ADD, v1, v2);
         }
-        return each_two(SUBTRACT, v1, v2);
-    }
-    if operation < SIGNED_MINIMUM {
-        if operation == MINIMUM {
-            return each_two(MINIMUM, v1, v2);
+        if operation == SUBTRACT {
+            return each_two(SUBTRACT, v1, v2);
         }
+        return each_two(MINIMUM, v1, v2);
+    }
+    if operation == MAXIMUM {
         return each_two(MAXIMUM, v1, v2);
     }
     if operation == SIGNED_MINIMUM {
@@ -119,16 +119,16 @@ pub(crate) fn two<'a>(operation: u32, v1: &'a Vector, v2: &'a Vector) -> Vector
 pub(crate) fn four<'a>(operation: u32, v1: &'a Vector, v2: &'a Vector) -> Vector
     ensures { λ r. ⌜ r ≡ vop vectorBytes 4 operation (now (v1 .entry)) (now (v2 .entry)) ⌝ }
 {
-    if operation < MINIMUM {
+    if operation < MAXIMUM {
         if operation == ADD {
             return each_four(ADD, v1, v2);
         }
-        return each_four(SUBTRACT, v1, v2);
-    }
-    if operation < SIGNED_MINIMUM {
-        if operation == MINIMUM {
-            return each_four(MINIMUM, v1, v2);
+        if operation == SUBTRACT {
+            return each_four(SUBTRACT, v1, v2);
         }
+        return each_four(MINIMUM, v1, v2);
+    }
+    if operation == MAXIMUM {
         return each_four(MAXIMUM, v1, v2);
     }
     if operation == SIGNED_MINIMUM {
@@ -140,16 +140,16 @@ pub(crate) fn four<'a>(operation: u32, v1: &'a Vector, v2: &'a Vector) -> Vector
 pub(crate) fn eight<'a>(operation: u32, v1: &'a Vector, v2: &'a Vector) -> Vector
     ensures { λ r. ⌜ r ≡ vop vectorBytes 8 operation (now (v1 .entry)) (now (v2 .entry)) ⌝ }
 {
-    if operation < MINIMUM {
+    if operation < MAXIMUM {
         if operation == ADD {
             return each_eight(ADD, v1, v2);
         }
-        return each_eight(SUBTRACT, v1, v2);
-    }
-    if operation < SIGNED_MINIMUM {
-        if operation == MINIMUM {
-            return each_eight(MINIMUM, v1, v2);
+        if operation == SUBTRACT {
+            return each_eight(SUBTRACT, v1, v2);
         }
+        return each_eight(MINIMUM, v1, v2);
+    }
+    if operation == MAXIMUM {
         return each_eight(MAXIMUM, v1, v2);
     }
     if operation == SIGNED_MINIMUM {

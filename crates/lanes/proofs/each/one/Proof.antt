@@ -16,23 +16,21 @@ each-one-requires-2 : tie.Need-each-one-requires-2
 each-one-requires-2 c κs = search needs
 
 returns-2 : tie.Need-returns-2
-returns-2 c =
-    let o : c .before .before .before .args .operation ≡ 1 = omega arith in
-    rw o (c .each-one2 .ensures)
+returns-2 c = rw (c .before .if3 .taken) (c .each-one2 .ensures)
 
 each-one-requires-3 : tie.Need-each-one-requires-3
 each-one-requires-3 c κs = search needs
 
 returns-3 : tie.Need-returns-3
-returns-3 c = rw (c .before .if4 .taken) (c .each-one3 .ensures)
+returns-3 c =
+    let o : c .before .before .before .before .args .operation ≡ 2 = omega arith in
+    rw o (c .each-one3 .ensures)
 
 each-one-requires-4 : tie.Need-each-one-requires-4
 each-one-requires-4 c κs = search needs
 
 returns-4 : tie.Need-returns-4
-returns-4 c =
-    let o : c .before .before .before .before .args .operation ≡ 3 = omega arith in
-    rw o (c .each-one4 .ensures)
+returns-4 c = rw (c .before .if4 .taken) (c .each-one4 .ensures)
 
 each-one-requires-5 : tie.Need-each-one-requires-5
 each-one-requires-5 c κs = search needs

@@ -16,23 +16,21 @@ each-two-requires-2 : tie.Need-each-two-requires-2
 each-two-requires-2 c κs = search needs
 
 returns-2 : tie.Need-returns-2
-returns-2 c =
-    let o : c .before .before .before .args .operation ≡ 1 = omega arith in
-    rw o (c .each-two2 .ensures)
+returns-2 c = rw (c .before .if3 .taken) (c .each-two2 .ensures)
 
 each-two-requires-3 : tie.Need-each-two-requires-3
 each-two-requires-3 c κs = search needs
 
 returns-3 : tie.Need-returns-3
-returns-3 c = rw (c .before .if4 .taken) (c .each-two3 .ensures)
+returns-3 c =
+    let o : c .before .before .before .before .args .operation ≡ 2 = omega arith in
+    rw o (c .each-two3 .ensures)
 
 each-two-requires-4 : tie.Need-each-two-requires-4
 each-two-requires-4 c κs = search needs
 
 returns-4 : tie.Need-returns-4
-returns-4 c =
-    let o : c .before .before .before .before .args .operation ≡ 3 = omega arith in
-    rw o (c .each-two4 .ensures)
+returns-4 c = rw (c .before .if4 .taken) (c .each-two4 .ensures)
 
 each-two-requires-5 : tie.Need-each-two-requires-5
 each-two-requires-5 c κs = search needs
