@@ -1,11 +1,11 @@
-use borrow.Author.Tests.{le-leb, lt-leb}
-use Rattle.rules.specs.Machine.{fieldsAs, reachesAs, effectAs}
-use borrow.Author.Tests.{not-true, not-false}
-use mathlib.Core.Path.{sym, _∙_}
-use Rattle.machine.proofs.InstructionLaws.{unknown-tried, effect-tried, registers-unknown, registers-fine, registers-below}
-use mathlib.Core.Path.{refl}
-use Rattle.rules.specs.Machine.{spliceKind}
+-- `do_splice`: a fault by the fields, or the two registers spliced.
+use mathlib.Core.Path.{refl, sym, _∙_}
 use borrow.Author.Needs.{needs}
+use borrow.Author.Tests.{le-leb, lt-leb, not-true, not-false}
+use Rattle.rules.specs.Machine.{spliceKind, fieldsAs, reachesAs, effectAs}
+use Rattle.machine.specs.Trying.{anyWidth}
+use Rattle.machine.proofs.InstructionLaws.{unknown-tried, effect-tried}
+use Rattle.machine.proofs.InstructionLaws.{registers-unknown, registers-fine, registers-below}
 use Rattle.machine.proofs.instructions.do_splice.Statement.{statement}
 use Rattle.machine.proofs.instructions.do_splice.Tie as tie
 
@@ -16,15 +16,16 @@ returns : tie.Need-returns
 unfolding fieldsAs reachesAs
 returns c table j work =
     let a = c .before .before .args in
-    unknown-tried spliceKind 0 table j (a .i) _ work
-    (registers-unknown (a .i) _ (sym (c .before .registers-known .ensures) ∙ not-true _ (c .if1 .taken)))
+    let unknown = sym (c .before .registers-known .ensures) ∙ not-true _ (c .if1 .taken) in
+    unknown-tried spliceKind anyWidth table j (a .i) _ work (registers-unknown (a .i) _ unknown)
 
 returns-2 : tie.Need-returns-2
 unfolding fieldsAs reachesAs
 returns-2 c table j work =
-    let a = c .before .before .before .before .args in
-    unknown-tried spliceKind 0 table j (a .i) _ work
-    (registers-fine (a .i) _ (sym (c .before .before .before .registers-known .ensures) ∙ not-false _ (c .before .before .if1 .left)) ∙ lt-leb _ _ (c .if2 .taken))
+    let at-registers = c .before .before .before in
+    let a = at-registers .before .args in
+    let known = sym (at-registers .registers-known .ensures) ∙ not-false _ (c .before .before .if1 .left) in
+    unknown-tried spliceKind anyWidth table j (a .i) _ work (registers-fine (a .i) _ known ∙ lt-leb _ _ (c .if2 .taken))
 
 cast-vsplice : tie.Need-cast-vsplice
 cast-vsplice c = search needs
@@ -34,8 +35,10 @@ mul-vsplice c = search needs
 
 element-copy-out-vsplice : tie.Need-element-copy-out-vsplice
 element-copy-out-vsplice c =
-    registers-below (c .before .before .before .before .before .args .i)
-    (sym (c .before .before .before .before .registers-known .ensures) ∙ not-false _ (c .before .before .before .if1 .left)) .1
+    let at-test = c .before .before .before in
+    let at-registers = at-test .before in
+    let known = sym (at-registers .registers-known .ensures) ∙ not-false _ (at-test .if1 .left) in
+    registers-below (at-registers .before .args .i) known .1
 
 cast-vsplice-2 : tie.Need-cast-vsplice-2
 cast-vsplice-2 c = search needs
@@ -45,9 +48,10 @@ mul-vsplice-2 c = search needs
 
 element-copy-out-vsplice-2 : tie.Need-element-copy-out-vsplice-2
 element-copy-out-vsplice-2 c =
-    registers-below (c .before .before .before .before .before .before .before .args .i)
-    (sym (c .before .before .before .before .before .before .registers-known .ensures) ∙ not-false _ (c .before .before .before .before .before .if1 .left))
-    .2
+    let at-test = c .before .before .before .before .before in
+    let at-registers = at-test .before in
+    let known = sym (at-registers .registers-known .ensures) ∙ not-false _ (at-test .if1 .left) in
+    registers-below (at-registers .before .args .i) known .2
 
 vsplice-requires : tie.Need-vsplice-requires
 vsplice-requires c κs = search needs
@@ -60,16 +64,21 @@ mul-v c = search needs
 
 element-set-from-v : tie.Need-element-set-from-v
 element-set-from-v c =
-    registers-below (c .before .before .before .before .before .before .before .before .before .before .args .i)
-    (sym (c .before .before .before .before .before .before .before .before .before .registers-known .ensures) ∙ not-false _ (c .before .before .before .before .before .before .before .before .if1 .left))
-    .0
+    let at-test = c .before .before .before .before .before .before .before .before in
+    let at-registers = at-test .before in
+    let known = sym (at-registers .registers-known .ensures) ∙ not-false _ (at-test .if1 .left) in
+    registers-below (at-registers .before .args .i) known .0
 
 returns-3 : tie.Need-returns-3
 unfolding fieldsAs reachesAs effectAs
 returns-3 c table j work =
-    let a = c .before .before .before .before .before .before .before .before .before .before .args in
+    let at-amount = c .before .before .before .before .before .before in
+    let at-test = at-amount .before .before in
+    let at-registers = at-test .before in
+    let a = at-registers .before .args in
+    let known = sym (at-registers .registers-known .ensures) ∙ not-false _ (at-test .if1 .left) in
     rw (c .before .vsplice .ensures)
-    (effect-tried spliceKind 0 table j (a .i) _ work refl (registers-fine (a .i) _ (sym (c .before .before .before .before .before .before .before .before .before .registers-known .ensures) ∙ not-false _ (c .before .before .before .before .before .before .before .before .if1 .left)) ∙ le-leb _ _ (c .before .before .before .before .before .before .if2 .left)))
+    (effect-tried spliceKind anyWidth table j (a .i) _ work refl (registers-fine (a .i) _ known ∙ le-leb _ _ (at-amount .if2 .left)))
 
 pub do-splice-spec : {M : Type 1} → statement M
 do-splice-spec =

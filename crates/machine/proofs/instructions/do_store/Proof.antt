@@ -1,3 +1,4 @@
+-- `do_store`: a fault by the register or outside work, else the block pasted.
 use mathlib.Core.Path.{sym, _∙_}
 use mathlib.Core.List.{[]}
 use borrow.Author.Tests.{le-ltb}
@@ -32,9 +33,8 @@ element-copy-out-store c = search needs
 
 store-requires : tie.Need-store-requires
 store-requires c κs =
-    place-inside _ _ _ _
-    (sym (c .before .before .before .before .before .before .place-of .ensures) ∙ c .before .before .before .before .place .given .1)
-    .fits
+    let at-inside = c .before .before .before .before in
+    place-inside _ _ _ _ (sym (at-inside .before .before .place-of .ensures) ∙ at-inside .place .given .1) .fits
 
 enum-told : tie.Need-enum-told
 enum-told c = search needs
@@ -44,9 +44,13 @@ same-length c = search needs
 
 returns-2 : tie.Need-returns-2
 returns-2 c =
-    let a = c .before .before .before .before .before .before .before .before .before .before .before .before .before .args in
+    let at-inside = c .before .before .before .before .before .before .before in
+    let at-place = at-inside .before .before in
+    let at-register = at-place .before in
+    let a = at-register .before .before .before .args in
+    let inside = sym (at-place .place-of .ensures) ∙ at-inside .place .given .1 in
     rw (c .before .before .store .ensures)
-    (store-inside anyWidth [] (a .pass .0) (a .i) _ _ (c .before .before .before .before .before .before .before .before .before .before .if1 .left) _ (sym (c .before .before .before .before .before .before .before .before .before .place-of .ensures) ∙ c .before .before .before .before .before .before .before .place .given .1))
+    (store-inside anyWidth [] (a .pass .0) (a .i) _ _ (at-register .if1 .left) _ inside)
 
 returns-3 : tie.Need-returns-3
 returns-3 c =

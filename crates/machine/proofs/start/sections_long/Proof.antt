@@ -1,3 +1,4 @@
+-- `sections_long`: the first section that is too long, if any.
 use mathlib.Core.Path.{sym, _∙_}
 use borrow.Author.Needs.{needs}
 use Rattle.machine.proofs.start.sections_long.Statement.{statement}
@@ -14,17 +15,21 @@ section-long-requires-2 c κs = search needs
 
 returns-2 : tie.Need-returns-2
 returns-2 c =
-    rw
-    (sym (c .before .before .before .section-long .ensures) ∙ c .before .before .if1 .left, sym (c .before .section-long2 .ensures) ∙ c .if2 .taken)
+    let at-prologue = c .before .before in
+    let prologue = sym (at-prologue .before .section-long .ensures) ∙ at-prologue .if1 .left in
+    let body = sym (c .before .section-long2 .ensures) ∙ c .if2 .taken in
+    rw (prologue, body)
 
 section-long-requires-3 : tie.Need-section-long-requires-3
 section-long-requires-3 c κs = search needs
 
 returns-3 : tie.Need-returns-3
 returns-3 c =
-    rw
-    (sym (c .before .before .before .before .section-long .ensures) ∙ c .before .before .before .if1 .left, sym (c .before .before .section-long2 .ensures) ∙ c .before .if2 .left)
-    (c .section-long3 .ensures)
+    let at-body = c .before in
+    let at-prologue = at-body .before .before in
+    let prologue = sym (at-prologue .before .section-long .ensures) ∙ at-prologue .if1 .left in
+    let body = sym (at-body .before .section-long2 .ensures) ∙ at-body .if2 .left in
+    rw (prologue, body) (c .section-long3 .ensures)
 
 pub sections-long-spec : {M : Type 1} → statement M
 sections-long-spec =
