@@ -1,13 +1,13 @@
 -- Checks of items in their order: while the items so far have nothing to refuse, the answer is left to those after them; the first
 -- that refuses gives the answer of the whole list. Every loop over lines or rows is read by these laws.
-use Prim.Native.Nat.{ℕ, zero, suc, _+_, _≤_, _<_}
-use mathlib.Core.Path.{_≡_, refl, sym, ap, _∙_}
+use Prim.Native.Nat.{ℕ, zero, suc, _+_, _<_}
+use mathlib.Core.Path.{_≡_}
 use mathlib.Core.List.{List, [], _∷_, _++_, append-assoc}
 use mathlib.Core.Logic.{⊎-elim}
 use native.Mathlib.Nat.{eq-or-lt-of-le, le-of-suc-le-suc}
 use native.Mathlib.Numerals.{add-one}
 use native.Mathlib.Omega.{arith}
-use Rattle.rules.specs.Answers.{Answer, DONE, at, done, first, each, orElse}
+use Rattle.rules.specs.Answers.{Answer, at, done, first, each}
 use Rattle.theory.proofs.Lists.{split}
 use Rattle.theory.proofs.FormLaws.{first-each}
 
