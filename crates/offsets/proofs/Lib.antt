@@ -1,2 +1,3 @@
 pub mod JudgeLaws
 pub mod CheckLaws
+pub mod Outcomes
