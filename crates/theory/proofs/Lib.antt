@@ -15,6 +15,7 @@ pub mod Placed
 pub mod PlacedSize
 pub mod RowLaws
 pub mod FormLaws
+pub mod Firsts
 pub mod ReadingLaws
 pub mod PlacedForm
 pub mod Checked
@@ -23,3 +24,4 @@ pub mod Handed
 pub mod Unrefused
 pub mod AnswerLaws
 pub mod Demands
+pub mod Stepwise
