@@ -1,0 +1,29 @@
+-- What some bytes of a text spell as one look at each tells it: the definitions of Digits, digits and value together.
+use Prim.Native.Nat.{ℕ}
+use mathlib.Core.List.{List}
+use mathlib.Core.Bool.{Bool, cond}
+use lib.Dec.{ltb}
+use Rattle.rules.specs.Digits.{isDigit, digitOf, digitRun, spelled}
+use Rattle.sheet.specs.declared.digits.Spelling.{Spelling}
+use Rattle.sheet.specs.declared.digits.Spelling.the-variants.{Number, Broken}
+
+-- a text that is a sheet is not longer, a line has at most 18 digits, and a field at most 16
+abbrev pub textMost : ℕ
+textMost = 2048
+
+abbrev pub lineMost : ℕ
+lineMost = 18
+
+abbrev pub numberMost : ℕ
+numberMost = 16
+
+-- what a digit stands for, and 16 for any other byte
+unfoldable pub digitOr : ℕ → ℕ
+digitOr b = cond (isDigit b) (digitOf b) 16
+
+-- not all of the k bytes from `at` on are digits
+abbrev pub short : List ℕ → ℕ → ℕ → Bool
+short text at k = ltb (digitRun text at k) k
+
+unfoldable pub numberAt : List ℕ → ℕ → ℕ → Spelling
+numberAt text at k = cond (short text at k) Broken (Number (spelled text at k))
