@@ -1,9 +1,9 @@
--- Digits one by one: so many bytes are all digits if two parts of them are, and a number grows by a digit at its end.
-use Prim.Native.Nat.{ℕ, zero, suc, _+_, _-_, _^_, _≤_, _<_}
+-- Digits two by two: so many bytes are all digits if two parts of them are, and a number grows by a byte of two digits at its end.
+use Prim.Native.Nat.{ℕ, zero, suc, _+_, _-_, _*_, _^_, _≤_, _<_}
 use mathlib.Core.Path.{_≡_, refl, sym, _∙_}
 use mathlib.Core.Bool.{Bool, true, false, cond, _||_, or-true}
 use mathlib.Core.List.{List}
-use native.Mathlib.Nat.{zero-add, add-zero, suc-add, pow-le-pow-right}
+use native.Mathlib.Nat.{zero-add, add-zero, suc-add, pow-suc, pow-le-pow-right}
 use native.Mathlib.Omega.{arith}
 use lib.ListN.{getD}
 use lib.Dec.{ltb, leb, lit<}
@@ -22,17 +22,16 @@ pub high-digit : (b : ℕ) → 65 ≤ b → b ≤ 70 → b - 65 + 10 ≡ digitOr
 unfolding digitOr isDigit digitOf
 high-digit b h l = rw (le-ltb b 48 (omega arith), lt-leb b 57 (omega arith), le-ltb b 65 h, le-leb b 70 l) (omega arith)
 
-pub below-digits : (b : ℕ) → b < 48 → 16 ≡ digitOr b
+-- a byte in neither range
+pub other-byte : (b : ℕ) → (48 ≤ b → 57 < b) → (65 ≤ b → 70 < b) → 16 ≡ digitOr b
 unfolding digitOr isDigit
-below-digits b h = rw (lt-ltb b 48 h)
-
-pub between-digits : (b : ℕ) → 57 < b → b < 65 → 16 ≡ digitOr b
-unfolding digitOr isDigit
-between-digits b h l = rw (le-ltb b 48 (omega arith), lt-leb b 57 h, lt-ltb b 65 l)
-
-pub above-digits : (b : ℕ) → 70 < b → 16 ≡ digitOr b
-unfolding digitOr isDigit
-above-digits b h = rw (le-ltb b 48 (omega arith), lt-leb b 57 (omega arith), le-ltb b 65 (omega arith), lt-leb b 70 h)
+other-byte b low high = go (ltb b 48) refl (ltb b 65) refl
+  where
+    go : (p : Bool) → ltb b 48 ≡ p → (q : Bool) → ltb b 65 ≡ q
+        → 16 ≡ cond (cond p false (cond (leb b 57) true (cond q false (leb b 70)))) (digitOf b) 16
+    go true e q f = refl
+    go false e true f = rw (lt-leb b 57 (low (ltb-false b 48 e)))
+    go false e false f = rw (lt-leb b 57 (low (ltb-false b 48 e)), lt-leb b 70 (high (ltb-false b 65 f)))
 
 digit-most : (b : ℕ) → digitOf b < 16
 unfolding digitOf
@@ -95,17 +94,52 @@ module _ (text : List ℕ) where
   unfolding digitRun
   short-none at = refl
 
-  -- a digit more
-  pub short-more : (at i : ℕ) → short text at i ≡ false → isDigit (getD text (at + i) 0) ≡ true → short text at (i + 1) ≡ false
+  -- two digits, and two that are not both digits
+  pub two : (at : ℕ) → isDigit (getD text at 0) ≡ true → isDigit (getD text (at + 1) 0) ≡ true → short text at 2 ≡ false
   unfolding digitRun
-  short-more at i h e = rw (short-split at i 1, h, e)
+  two at d e = rw (d, e)
 
-  -- a byte that is none
-  pub short-here : (at i k : ℕ) → i < k → isDigit (getD text (at + i) 0) ≡ false → short text at k ≡ true
+  pub first-broken : (at : ℕ) → isDigit (getD text at 0) ≡ false → short text at 2 ≡ true
   unfolding digitRun
+  first-broken at d = rw d
+
+  pub second-broken : (at : ℕ) → isDigit (getD text at 0) ≡ true → isDigit (getD text (at + 1) 0) ≡ false → short text at 2 ≡ true
+  unfolding digitRun
+  second-broken at d e = rw (d, e)
+
+  -- a byte more, and one that is broken
+  pub short-more : (at i : ℕ) → short text at (2 * i) ≡ false → short text (at + 2 * i) 2 ≡ false → short text at (2 * (i + 1)) ≡ false
+  short-more at i h e =
+      let s : 2 * (i + 1) ≡ 2 * i + 2 = omega arith in
+      rw (s, short-split at (2 * i) 2, h, e)
+
+  pub short-here : (at i k : ℕ) → i < k → short text (at + 2 * i) 2 ≡ true → short text at (2 * k) ≡ true
   short-here at i k h e =
-      let s : k ≡ i + suc (k - (i + 1)) = omega arith in
-      rw (s, short-split at i (suc (k - (i + 1))), e, lt-ltb 0 (suc (k - (i + 1))) (omega arith)) (or-true (short text at i))
+      let rest : ℕ = 2 * k - (2 * i + 2) in
+      let s : 2 * k ≡ 2 * i + 2 + rest = omega arith in
+      rw (s, short-split at (2 * i + 2) rest, short-split at (2 * i) 2, e, or-true)
+
+  pub spelled-two : (at : ℕ) → spelled text at 2 ≡ digitOf (getD text at 0) * 16 + digitOf (getD text (at + 1) 0)
+  unfolding spelled
+  spelled-two at = rw add-zero (omega arith)
+
+  pub spelled-more : (at i : ℕ) → spelled text at (2 * (i + 1)) ≡ spelled text at (2 * i) * 256 + spelled text (at + 2 * i) 2
+  unfolding spelled
+  spelled-more at i =
+      let s : 2 * (i + 1) ≡ suc (suc (2 * i)) = omega arith in
+      let e : at + suc (2 * i) ≡ at + 2 * i + 1 = omega arith in
+      rw (s, e, add-zero) (omega arith)
+
+  pub spelled-most : (at k : ℕ) → spelled text at k < 16 ^ k
+  unfolding spelled
+  spelled-most at zero = omega arith
+  spelled-most at (suc k) = rw pow-suc (omega (arith, spelled-most at k, digit-most (getD text (at + k) 0)))
+
+  -- seven bytes leave room for one more in 64 bits
+  pub spelled-small : (at i : ℕ) → i < 8 → spelled text at (2 * i) < 16 ^ 14
+  spelled-small at i h =
+      let b : 2 * i ≤ 14 = omega arith in
+      omega (arith, spelled-most at (2 * i), pow-le-pow-right {n = 16} (lit< tt) b)
 
   pub number-is : (at k : ℕ) → short text at k ≡ false → Number (spelled text at k) ≡ numberAt text at k
   unfolding numberAt
@@ -130,9 +164,3 @@ module _ (text : List ℕ) where
       go : (t : Bool) → Broken ≡ cond t Broken (Number (spelled text at k)) → t ≡ true
       go true e = refl
       go false e = let z : _≡_ {A = ℕ} 0 1 = cc in absurd (omega arith)
-
--- fifteen digits leave room for one more in 64 bits
-pub digits-small : (i : ℕ) → i < 16 → 16 ^ i ≤ 16 ^ 15
-digits-small i h =
-    let b : i ≤ 15 = omega arith in
-    pow-le-pow-right {n = 16} (lit< tt) b

@@ -1,6 +1,6 @@
 -- A frame by its parts: it is whole where the kind's digits, each field's digits and the line feed are, and where it would reach
 -- past the end of the text there is none.
-use Prim.Native.Nat.{ℕ, _+_, _≤_, _<_}
+use Prim.Native.Nat.{ℕ, zero, suc, _+_, _≤_, _<_}
 use mathlib.Core.Path.{_≡_, refl}
 use mathlib.Core.Bool.{Bool, true, false, cond, _||_, or-true}
 use mathlib.Core.List.{List}
@@ -14,7 +14,7 @@ use Rattle.theory.proofs.RowLaws.{no-node-kind}
 use Rattle.rules.specs.declared.sheet.FieldDigits.{FieldDigits}
 use Rattle.rules.specs.declared.sheet.Frame.{Frame}
 use Rattle.rules.specs.declared.sheet.Frame.the-variants.{Bad, Is}
-use Rattle.sheet.specs.Numbers.{short, numberAt}
+use Rattle.sheet.specs.Numbers.{short, numberAt, Bytes}
 use Rattle.sheet.specs.declared.digits.Spelling.the-variants.{Number, Broken}
 use Rattle.sheet.proofs.DigitLaws.{short-split, spelt, broken}
 
@@ -103,3 +103,13 @@ pub end-digits : (kind : ℕ) → (kind ≡ 0 → ⊥) → (kind ≡ 1 → ⊥) 
 unfolding fieldDigits
 end-digits kind n a b c d =
     no-node-kind (λ (k : ℕ). (k ≡ 0 → ⊥) → digits 2 0 0 ≡ fieldDigits k) (λ z. absurd (z refl)) (λ k z. refl) kind a b c d n
+
+-- every field is of whole bytes
+pub whole-bytes : (kind : ℕ) → Bytes (fieldDigits kind)
+unfolding fieldDigits
+whole-bytes zero = record { most = omega arith; x = refl; y = refl; z = refl }
+whole-bytes (suc zero) = record { most = omega arith; x = refl; y = refl; z = refl }
+whole-bytes (suc (suc zero)) = record { most = omega arith; x = refl; y = refl; z = refl }
+whole-bytes (suc (suc (suc zero))) = record { most = omega arith; x = refl; y = refl; z = refl }
+whole-bytes (suc (suc (suc (suc zero)))) = record { most = omega arith; x = refl; y = refl; z = refl }
+whole-bytes (suc (suc (suc (suc (suc k))))) = record { most = omega arith; x = refl; y = refl; z = refl }

@@ -2,16 +2,18 @@
 // of the text there is none, so one look at the length is enough for all of its digits.
 use crate::digits::Spelling;
 use crate::digits::number;
+use crate::digits::two_digits;
 use rules::sheet::FieldDigits;
 use rules::sheet::Fields;
 use rules::sheet::Frame;
 ghost use mathlib.Core.Path.{_≡_};
 ghost use mathlib.Core.Bool.{false};
-ghost use Prim.Native.Nat.{_≤_, _<_};
-ghost use Rattle.rules.specs.Frames.{fieldDigits, frameDigits, frameOf, frameAt};
-ghost use Rattle.sheet.specs.Numbers.{short, lineMost, textMost};
+ghost use Prim.Native.Nat.{_<_};
+ghost use Rattle.rules.specs.Frames.{fieldDigits, frameOf, frameAt};
+ghost use Rattle.sheet.specs.Numbers.{short, Bytes, textMost};
 
-const KIND_DIGITS: usize = 2;
+// Digits of a byte, and so of the kind.
+const DIGITS: usize = 2;
 
 const END_KIND: u64 = 5;
 
@@ -34,11 +36,11 @@ fn field_digits(kind: u64) -> FieldDigits
 // The frame of a kind whose two digits were read.
 fn frame_of(text: &[u8], at: usize, kind: u64, w: FieldDigits) -> Frame
     requires { ⌜ at < textMost ⌝ }
-    requires { ⌜ frameDigits w ≤ lineMost ⌝ }
+    requires { ⌜ Bytes w ⌝ }
     requires { ⌜ short (now text) at 2 ≡ false ⌝ }
     ensures { λ r. ⌜ r ≡ frameOf (now (text .entry)) at kind w ⌝ }
 {
-    let x_at = at + KIND_DIGITS;
+    let x_at = at + DIGITS;
     let y_at = x_at + w.x as usize;
     let z_at = y_at + w.y as usize;
     let end = z_at + w.z as usize;
@@ -48,13 +50,13 @@ fn frame_of(text: &[u8], at: usize, kind: u64, w: FieldDigits) -> Frame
     if text[end] != LINE_FEED {
         return Frame::Bad;
     }
-    let Spelling::Number(x) = number(text, x_at, w.x as usize) else {
+    let Spelling::Number(x) = number(text, x_at, w.x as usize / DIGITS) else {
         return Frame::Bad;
     };
-    let Spelling::Number(y) = number(text, y_at, w.y as usize) else {
+    let Spelling::Number(y) = number(text, y_at, w.y as usize / DIGITS) else {
         return Frame::Bad;
     };
-    let Spelling::Number(z) = number(text, z_at, w.z as usize) else {
+    let Spelling::Number(z) = number(text, z_at, w.z as usize / DIGITS) else {
         return Frame::Bad;
     };
     let next = end as u64 + 1;
@@ -71,11 +73,11 @@ pub(crate) fn frame_at(text: &[u8], at: usize) -> Frame
     requires { ⌜ at < textMost ⌝ }
     ensures { λ r. ⌜ r ≡ frameAt (now (text .entry)) at ⌝ }
 {
-    let fields = at + KIND_DIGITS;
+    let fields = at + DIGITS;
     if text.len() <= fields {
         return Frame::Bad;
     }
-    let Spelling::Number(kind) = number(text, at, KIND_DIGITS) else {
+    let Spelling::Number(kind) = two_digits(text, at) else {
         return Frame::Bad;
     };
     if END_KIND < kind {

@@ -1,8 +1,7 @@
 -- The kind byte past the end, broken, unknown, or known.
 use mathlib.Core.Path.{sym, _∙_}
-use Rattle.theory.proofs.ReadingLaws.{frame-digits-most}
 use Rattle.sheet.proofs.DigitLaws.{spelt}
-use Rattle.sheet.proofs.FrameLaws.{kind-past, kind-broken, kind-unknown, kind-known}
+use Rattle.sheet.proofs.FrameLaws.{kind-past, kind-broken, kind-unknown, kind-known, whole-bytes}
 use borrow.Author.Needs.{needs}
 use Rattle.sheet.proofs.frames.frame_at.Statement.{statement}
 use Rattle.sheet.proofs.frames.frame_at.Tie as tie
@@ -13,8 +12,8 @@ add-fields c = search needs
 returns : tie.Need-returns
 returns c = kind-past (c .before .before .args .text .now) (c .before .before .args .at) (c .if1 .taken)
 
-number-requires : tie.Need-number-requires
-number-requires c κs = search needs
+two-digits-requires : tie.Need-two-digits-requires
+two-digits-requires c κs = search needs
 
 enum-known-kind : tie.Need-enum-known-kind
 enum-known-kind c = search needs
@@ -25,13 +24,13 @@ enum-told c = search needs
 returns-2 : tie.Need-returns-2
 returns-2 c =
     let a = c .before .before .before .before .before .args in
-    kind-broken (a .text .now) (a .at) (sym (c .enum-told .given .1) ∙ c .before .before .number .ensures)
+    kind-broken (a .text .now) (a .at) (sym (c .enum-told .given .1) ∙ c .before .before .two-digits .ensures)
 
 returns-3 : tie.Need-returns-3
 returns-3 c =
     let k = c .before .before in
     let a = k .before .before .before .before .before .args in
-    kind-unknown (a .text .now) (a .at) _ (sym (k .kind .given .1) ∙ k .before .before .number .ensures) (c .if2 .taken)
+    kind-unknown (a .text .now) (a .at) _ (sym (k .kind .given .1) ∙ k .before .before .two-digits .ensures) (c .if2 .taken)
 
 field-digits-requires : tie.Need-field-digits-requires
 field-digits-requires c κs = search needs
@@ -40,15 +39,15 @@ frame-of-requires : tie.Need-frame-of-requires
 frame-of-requires c κs =
     let k = c .before .before .before in
     let a = k .before .before .before .before .before .args in
-    let s = spelt (a .text .now) (a .at) 2 _ (sym (k .kind .given .1) ∙ k .before .before .number .ensures) in
-    (k .before .before .before .before .before .pre, (rw (c .field-digits .ensures) (frame-digits-most _), s .0))
+    let s = spelt (a .text .now) (a .at) 2 _ (sym (k .kind .given .1) ∙ k .before .before .two-digits .ensures) in
+    (k .before .before .before .before .before .pre, (rw (c .field-digits .ensures) (whole-bytes _), s .0))
 
 returns-4 : tie.Need-returns-4
 returns-4 c =
     let k = c .before .before .before .before in
     let a = k .before .before .before .before .before .args in
-    kind-known (a .text .now) (a .at) _ (sym (k .kind .given .1) ∙ k .before .before .number .ensures) (c .before .before .if2 .left)
-    _ (rw (c .before .field-digits .ensures) at (c .frame-of .ensures))
+    kind-known (a .text .now) (a .at) _ (sym (k .kind .given .1) ∙ k .before .before .two-digits .ensures)
+    (c .before .before .if2 .left) _ (rw (c .before .field-digits .ensures) at (c .frame-of .ensures))
 
 pub frame-at-spec : {M : Type 1} → statement M
 frame-at-spec =
@@ -56,7 +55,7 @@ frame-at-spec =
     (tie.spec
     add-fields
     returns
-    number-requires
+    two-digits-requires
     enum-known-kind
     enum-told
     returns-2

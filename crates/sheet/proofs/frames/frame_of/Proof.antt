@@ -45,8 +45,10 @@ enum-told c = search needs
 
 returns-3 : tie.Need-returns-3
 returns-3 c =
-    let a = c .before .before .before .before .before .before .before .args in
-    broken-x (a .text .now) (a .at) (a .kind) (a .w) (sym (c .enum-told .given .1) ∙ c .before .before .number .ensures)
+    let entry = c .before .before .before .before .before .before .before in
+    let a = entry .args in
+    broken-x (a .text .now) (a .at) (a .kind) (a .w)
+    (sym (c .enum-told .given .1) ∙ c .before .before .number .ensures ∙ rw (entry .pre .1 .0 .x))
 
 number-requires-2 : tie.Need-number-requires-2
 number-requires-2 c κs = search needs
@@ -59,8 +61,10 @@ enum-told-2 c = search needs
 
 returns-4 : tie.Need-returns-4
 returns-4 c =
-    let a = c .before .before .before .before .before .before .before .before .before .before .before .args in
-    broken-y (a .text .now) (a .at) (a .kind) (a .w) (sym (c .enum-told2 .given .1) ∙ c .before .before .number2 .ensures)
+    let entry = c .before .before .before .before .before .before .before .before .before .before .before in
+    let a = entry .args in
+    broken-y (a .text .now) (a .at) (a .kind) (a .w)
+    (sym (c .enum-told2 .given .1) ∙ c .before .before .number2 .ensures ∙ rw (entry .pre .1 .0 .y))
 
 number-requires-3 : tie.Need-number-requires-3
 number-requires-3 c κs = search needs
@@ -74,8 +78,10 @@ enum-told-3 c = search needs
 returns-5 : tie.Need-returns-5
 returns-5 c =
     let second = c .before .before .before .before in
-    let a = second .before .before .before .before .before .before .before .before .before .before .before .args in
-    broken-z (a .text .now) (a .at) (a .kind) (a .w) (sym (c .enum-told3 .given .1) ∙ c .before .before .number3 .ensures)
+    let entry = second .before .before .before .before .before .before .before .before .before .before .before in
+    let a = entry .args in
+    broken-z (a .text .now) (a .at) (a .kind) (a .w)
+    (sym (c .enum-told3 .given .1) ∙ c .before .before .number3 .ensures ∙ rw (entry .pre .1 .0 .z))
 
 add-next : tie.Need-add-next
 add-next c = search needs
@@ -86,13 +92,14 @@ returns-6 c =
     let second = third .before .before .before .before in
     let first = second .before .before .before .before in
     let fed = first .before .before .before in
-    let a = fed .before .before .before .before .args in
+    let entry = fed .before .before .before .before in
+    let a = entry .args in
+    let bytes = entry .pre .1 .0 in
     let e : a .at + frameDigits (a .w) ≡ a .at + 2 + a .w .x + a .w .y + a .w .z = omega arith in
-    whole (a .text .now) (a .at) (a .kind) (a .w) _ _ _ _ (fed .before .before .before .before .pre .1 .1)
-    (rw e (fed .if2 .left)) (omega arith)
-    (sym (first .x .given .1) ∙ first .before .before .number .ensures)
-    (sym (second .y .given .1) ∙ second .before .before .number2 .ensures)
-    (sym (third .z .given .1) ∙ third .before .before .number3 .ensures)
+    whole (a .text .now) (a .at) (a .kind) (a .w) _ _ _ _ (entry .pre .1 .1) (rw e (fed .if2 .left)) (omega arith)
+    (sym (first .x .given .1) ∙ first .before .before .number .ensures ∙ rw (bytes .x))
+    (sym (second .y .given .1) ∙ second .before .before .number2 .ensures ∙ rw (bytes .y))
+    (sym (third .z .given .1) ∙ third .before .before .number3 .ensures ∙ rw (bytes .z))
 
 pub frame-of-spec : {M : Type 1} → statement M
 frame-of-spec =
