@@ -10,7 +10,7 @@ use lib.Seq.{getD-take}
 use lib.Dec.{ltb, leb, eqb}
 use borrow.Author.Tests.{lt-ltb, le-ltb, ltb-true, ltb-false, leb-false, eqb-true}
 use Rattle.rules.specs.Limits.{vectorBytes, nodesMost}
-use Rattle.rules.specs.Answers.{DONE, ofRead, done, first}
+use Rattle.rules.specs.Answers.{DONE, ROOM, ofRead, done, first}
 use Rattle.rules.specs.Digits.{digitRun, spelled}
 use Rattle.rules.specs.Frames.{fieldDigits, frameDigits, fieldsOf, frameOf, frameAt, endKind, headerKind}
 use Rattle.rules.specs.Ranges.{headOk, rowOk, takes}
@@ -81,9 +81,9 @@ pub record NodeAfter (D : ℕ) (here : Cursor) (b : ℕ) (row : Row) (there : Cu
   pub enough : takes (row .kind) ≤ here .waiting
   pub room : here .count < nodesMost
 
--- a line that stops refuses, there or right after it; at the end exactly one waits
+-- a line that stops refuses, and not for room, there or right after it; at the end exactly one waits
 abbrev pub LineDoes : ℕ → Cursor → ℕ → LineStep → Type 0
-LineDoes D here b (Stop answer) = (0 < ofRead answer .number) × (ofRead answer .place ≤ here .line + 1)
+LineDoes D here b (Stop answer) = (ROOM < ofRead answer .number) × (ofRead answer .place ≤ here .line + 1)
 LineDoes D here b End = here .waiting ≡ 1
 LineDoes D here b (Node row there) = NodeAfter D here b row there
 
@@ -234,7 +234,7 @@ reading-first-bytes text head nodes = rw (first-bytes-decide text)
 
 follow-holds : (P : Sheet → Type 0) (D b : ℕ) (here : Cursor) (head nodes : List ℕ) (step : LineStep) (next : Row → Cursor → Sheet)
     → LineDoes D here b step
-    → ((answer : ReadAnswer) → 0 < ofRead answer .number → ofRead answer .place ≤ here .line + 1 → P (refused answer))
+    → ((answer : ReadAnswer) → ROOM < ofRead answer .number → ofRead answer .place ≤ here .line + 1 → P (refused answer))
     → (here .waiting ≡ 1 → P (record { answer = Done; head = head ++ here .count ∷ []; nodes = nodes }))
     → ((row : Row) (there : Cursor) → NodeAfter D here b row there → P (next row there))
     → P (follow step here head nodes next)
@@ -290,6 +290,64 @@ reading-place text head nodes = go (headShort head || nodesShort nodes) (sheetOf
     go false (Range p) h = h
     go false (Shape p) h = h
 
+-- ---- a refusal of a text leaves nothing of it
+
+-- what a call leaves of a sheet is the sheet itself, whatever its answer
+abbrev Laid : Sheet → Type 0
+Laid sheet =
+    (before : List ℕ)
+    → (tableLeft (ofRead (sheet .answer) .number) before (sheet .head) ≡ padded (length before) (sheet .head))
+    × (tableLeft (ofRead (sheet .answer) .number) before (sheet .nodes) ≡ padded (length before) (sheet .nodes))
+
+refused-laid : (answer : ReadAnswer) → ROOM < ofRead answer .number → Laid (refused answer)
+refused-laid Done h = absurd (omega arith)
+refused-laid Room h = absurd (omega arith)
+refused-laid (Line p) h = λ before. (refl, refl)
+refused-laid (Range p) h = λ before. (refl, refl)
+refused-laid (Shape p) h = λ before. (refl, refl)
+
+lines-laid : (more : ℕ) (text : List ℕ) (D : ℕ) (here : Cursor) (head nodes : List ℕ) → Laid (linesFrom more text D here head nodes)
+unfolding linesFrom
+lines-laid zero text D here head nodes =
+    follow-holds Laid D _ here head nodes (lineAt text D here) _ (line-does text D here)
+    (λ answer r p. refused-laid answer r) (λ one before. (refl, refl)) (λ row there n. refused-laid (Shape (here .line)) (omega arith))
+lines-laid (suc more) text D here head nodes =
+    follow-holds Laid D _ here head nodes (lineAt text D here) _ (line-does text D here)
+    (λ answer r p. refused-laid answer r) (λ one before. (refl, refl)) (λ row there n. lines-laid more text D there head _)
+
+sheet-by-laid : (text : List ℕ) (frame : Frame) → Laid (sheetBy text frame)
+unfolding sheetBy headerLine
+sheet-by-laid text Bad = refused-laid (Line 1) (omega arith)
+sheet-by-laid text (Is f) = go (eqb (f .kind) headerKind) (headOk (f .x) (f .y) (f .z))
+  where
+    lines : Sheet
+    lines = linesFrom nodesMost text (f .x) (fresh f) (f .x ∷ f .y ∷ f .z ∷ []) []
+
+    go : (header ok : Bool) → Laid (cond header (cond ok lines (refused (Range 1))) (refused (Line 1)))
+    go true true = lines-laid 64 text (f .x) (fresh f) _ []
+    go true false = refused-laid (Range 1) (omega arith)
+    go false ok = refused-laid (Line 1) (omega arith)
+
+-- a text's answer, where no check comes after it
+last-read : (answer : ReadAnswer) → first (ofRead answer ∷ []) ≡ ofRead answer
+unfolding first
+last-read Done = refl
+last-read Room = refl
+last-read (Line p) = refl
+last-read (Range p) = refl
+last-read (Shape p) = refl
+
+-- so where the tables have room a call leaves the sheet
+pub reading-leaves-sheet : (text head nodes : List ℕ) → headShort head ≡ false → nodesShort nodes ≡ false
+    → let s = sheetOf text in
+    record { answer = ofRead (s .answer); head = padded (length head) (s .head); nodes = padded (length nodes) (s .nodes) }
+    ≡ reading text head nodes
+unfolding reading sheetOf first
+reading-leaves-sheet text head nodes h n =
+    let s : Sheet = sheetBy text (frameAt text 0) in
+    let laid : Laid s = sheet-by-laid text (frameAt text 0) in
+    rw (h, n, last-read (s .answer), laid head .0, laid nodes .1)
+
 -- ---- a text that reads done
 
 -- what has been read: k nodes, of which so many wait
@@ -307,8 +365,8 @@ record Ended (D : ℕ) (head : List ℕ) (sheet : Sheet) : Type 0 where
 abbrev DoneEnded : ℕ → List ℕ → Sheet → Type 0
 DoneEnded D head sheet = sheet .answer ≡ Done → Ended D head sheet
 
-refused-not-done : (answer : ReadAnswer) → 0 < ofRead answer .number → answer ≡ Done → ⊥
-refused-not-done answer h e = let z : 0 < 0 = rw e at h in omega arith
+refused-not-done : (answer : ReadAnswer) → ROOM < ofRead answer .number → answer ≡ Done → ⊥
+refused-not-done answer h e = let z : ROOM < 0 = rw e at h in omega arith
 
 held-next : (D b : ℕ) (here : Cursor) (nodes : List ℕ) (row : Row) (there : Cursor) → Held D (here .count) (here .waiting) nodes
     → NodeAfter D here b row there → Held D (there .count) (there .waiting) (nodes ++ row .kind ∷ row .x ∷ row .y ∷ [])

@@ -1,0 +1,5 @@
+pub mod DigitLaws
+pub mod FrameLaws
+pub mod LineLaws
+pub mod SheetLaws
+pub mod Outcomes

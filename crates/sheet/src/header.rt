@@ -1,0 +1,69 @@
+// The header, and with it a whole sheet into tables that are all zero.
+use crate::frames::frame_at;
+use crate::lines::Ending;
+use crate::lines::read_lines;
+use rules::answers::ReadAnswer;
+use rules::sheet::Cursor;
+use rules::sheet::Fields;
+use rules::sheet::Frame;
+ghost use mathlib.Core.Path.{_≡_};
+ghost use mathlib.Core.List.{[], _∷_};
+ghost use Prim.Native.Nat.{_≤_};
+ghost use lib.ListN.{length};
+ghost use lib.Seq.{sets};
+ghost use Rattle.rules.specs.Reading.{sheetOf, headerLine};
+ghost use Rattle.sheet.specs.Cursors.{lineBytes};
+ghost use Rattle.sheet.specs.Left.{sheetLeft, filled, Zeroed};
+
+// Writes D, n, S and the number of nodes.
+fn put_head(head: &mut [u64], f: Fields, count: u64)
+    ensures { λ _. ⌜ now (head .exit) ≡ sets (now (head .entry)) 0 (f .x ∷ f .y ∷ f .z ∷ count ∷ []) ⌝ }
+{
+    tables::put(head, 0, f.x);
+    tables::put(head, 1, f.y);
+    tables::put(head, 2, f.z);
+    tables::put(head, 3, count);
+}
+
+// A sheet whose line 1 is a header.
+fn after_header(text: &[u8], f: Fields, head: &mut [u64], nodes: &mut [u64]) -> ReadAnswer
+    requires { ⌜ f .next ≤ lineBytes ⌝ }
+    requires { ⌜ Zeroed (now head) (now nodes) ⌝ }
+    ensures { λ r. ⌜ sheetLeft r (now (head .exit)) (now (nodes .exit)) ≡ filled (length (now (head .entry))) (length (now (nodes .entry))) (headerLine (now (text .entry)) f) ⌝ }
+{
+    if !ranges::head_ok(f.x, f.y, f.z) {
+        return ReadAnswer::Range(1);
+    }
+    let width = ranges::width_of(f.x);
+    let first = Cursor {
+        at: f.next,
+        line: 2,
+        count: 0,
+        waiting: 0,
+    };
+    let ending = read_lines(text, width, first, nodes);
+    match ending {
+        Ending::Nodes(count) => {
+            put_head(head, f, count);
+            ReadAnswer::Done
+        }
+        Ending::Refused(answer) => answer,
+    }
+}
+
+pub(crate) fn sheet(text: &[u8], head: &mut [u64], nodes: &mut [u64]) -> ReadAnswer
+    requires { ⌜ Zeroed (now head) (now nodes) ⌝ }
+    ensures { λ r. ⌜ sheetLeft r (now (head .exit)) (now (nodes .exit)) ≡ filled (length (now (head .entry))) (length (now (nodes .entry))) (sheetOf (now (text .entry))) ⌝ }
+{
+    let frame = frame_at(text, 0);
+    match frame {
+        Frame::Bad => ReadAnswer::Line(1),
+        Frame::Is(f) => {
+            let kind = f.kind;
+            match kind {
+                0 => after_header(text, f, head, nodes),
+                _ => ReadAnswer::Line(1),
+            }
+        }
+    }
+}
