@@ -1,1 +1,4 @@
 pub mod MoveLaws
+pub mod RecordLaws
+pub mod RowLaws
+pub mod MetLaws

@@ -3,7 +3,7 @@ use Prim.Native.Nat.{ℕ, _<_}
 use mathlib.Core.Path.{_≡_}
 use mathlib.Core.List.{List}
 use lib.ListN.{getD}
-use Rattle.rules.specs.Trees.{Tree, bytes, nodeAt, treeAt}
+use Rattle.rules.specs.Trees.{bytes, nodeAt, treeAt, rows}
 use Rattle.rules.specs.Offsets.{offset}
 use Rattle.rules.specs.declared.nodes.Node.{Node}
 use Rattle.rules.specs.declared.nodes.Node.the-variants.{Load, Splat, Op, Shift}
@@ -12,7 +12,7 @@ use Rattle.rules.specs.declared.nodes.Offset.the-variants.{At}
 use Rattle.rules.specs.declared.nodes.NodeRecord.{NodeRecord}
 use Rattle.graph.specs.Links.{Linked}
 use Rattle.placing.specs.declared.rule.Moves.{Moves}
-use Rattle.placing.specs.Moves.{moved}
+use Rattle.placing.specs.Moves.{goes, moved}
 
 -- what stands past the last record
 abbrev pub noRecord : NodeRecord
@@ -31,6 +31,10 @@ leftIn lefts k = getD lefts k 0
 -- the offset of node k's placed tree
 abbrev pub movedOffset : (W : ℕ) → Moves → (ℕ → Node) → ℕ → Offset
 movedOffset W m node k = offset W (moved W m (treeAt node k))
+
+-- the rows of node k's placed tree, and a shift if it has to go elsewhere
+abbrev pub movedRows : (W : ℕ) → Moves → List NodeRecord → (k : ℕ) → Offset → List ℕ
+movedRows W m recs k to = rows (goes W to (moved W m (treeAt (nodeIn recs) k)))
 
 -- the record of node k of a table
 abbrev pub recordOf : (W : ℕ) → Moves → (nodes : List ℕ) → ℕ → NodeRecord

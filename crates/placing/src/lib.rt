@@ -1,2 +1,5 @@
 // Placing (document 01, "Placing"): shifts put into a bare sheet by one of four rules, and the placed graph handed back.
+mod dominant;
+mod records;
+mod rows;
 mod rule;
