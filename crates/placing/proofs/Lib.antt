@@ -2,3 +2,4 @@ pub mod MoveLaws
 pub mod RecordLaws
 pub mod RowLaws
 pub mod MetLaws
+pub mod HandingLaws

@@ -1,12 +1,16 @@
 // DOMINANT's offset: how often each offset is met among the loads and the store, and which is met most often.
 use crate::rule::V;
+use graph::Header;
 use rules::nodes::Node;
 use rules::units::ByteOffset;
 ghost use mathlib.Core.Path.{_≡_};
 ghost use mathlib.Core.List.{[], _∷_};
 ghost use Prim.Native.Nat.{_≤_, _<_};
 ghost use Rattle.rules.specs.Limits.{vectorBytes, nodesMost};
-ghost use Rattle.rules.specs.Trees.{nodeAt};
+ghost use Rattle.rules.specs.Trees.{bytes, nodeAt, treeOf};
+ghost use Rattle.rules.specs.Placing.{dominant};
+ghost use Rattle.theory.proofs.FormLaws.{Formed};
+ghost use Rattle.graph.specs.Headers.{graphIn};
 ghost use Rattle.placing.specs.Met.{metIn, Counted, Largest};
 
 const OFFSETS: usize = 16;
@@ -45,4 +49,15 @@ fn most_met(counts: &[u8; 16]) -> usize
         x = x + 1;
     }
     most
+}
+
+// The offset met most often among the loads and the store.
+pub(crate) fn dominant(head: Header, nodes: &[u64]) -> ByteOffset
+    requires { ⌜ Formed vectorBytes (graphIn head (now nodes)) ⌝ }
+    ensures { λ r. ⌜ r ≡ bytes (dominant vectorBytes (head .store .0) (treeOf (now (nodes .entry)) (head .count))) ⌝ }
+{
+    let c = ByteOffset(head.store.0 % V);
+    let counts = count_met(nodes, head.count, c);
+    let most = most_met(&counts);
+    ByteOffset(most as u64)
 }

@@ -1,6 +1,14 @@
-// What a placing rule moves, and where.
+// What a placing rule moves, and where: 0 ZERO, 1 EAGER, 2 LAZY, 3 DOMINANT.
+use crate::dominant::dominant;
+use graph::Header;
 use rules::nodes::Offset;
 use rules::units::ByteOffset;
+ghost use mathlib.Core.Path.{_≡_};
+ghost use Rattle.rules.specs.Limits.{vectorBytes};
+ghost use Rattle.rules.specs.Trees.{treeOf};
+ghost use Rattle.theory.proofs.FormLaws.{Formed};
+ghost use Rattle.graph.specs.Headers.{graphIn};
+ghost use Rattle.placing.specs.Moves.{movesOf};
 
 // Bytes of a vector.
 pub(crate) const V: u64 = 16;
@@ -9,4 +17,22 @@ pub(crate) const V: u64 = 16;
 pub(crate) struct Moves {
     pub loads: Offset,
     pub meeting: ByteOffset,
+}
+
+// By ZERO and EAGER the inputs of an op never disagree: they meet where they stand.
+pub(crate) fn moves_of(rule: u64, head: Header, nodes: &[u64]) -> Moves
+    requires { ⌜ Formed vectorBytes (graphIn head (now nodes)) ⌝ }
+    ensures { λ r. ⌜ r ≡ movesOf vectorBytes (head .store .0) rule (treeOf (now (nodes .entry)) (head .count)) ⌝ }
+{
+    let zero = ByteOffset(0);
+    let c = ByteOffset(head.store.0 % V);
+    match rule {
+        0 => Moves { loads: Offset::At(zero), meeting: zero },
+        1 => Moves { loads: Offset::At(c), meeting: c },
+        2 => Moves { loads: Offset::Undefined, meeting: c },
+        _ => {
+            let most = dominant(head, nodes);
+            Moves { loads: Offset::Undefined, meeting: most }
+        }
+    }
 }
