@@ -3,3 +3,4 @@ pub mod RecordLaws
 pub mod RowLaws
 pub mod MetLaws
 pub mod HandingLaws
+pub mod JudgeLaws
