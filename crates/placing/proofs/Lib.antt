@@ -4,3 +4,4 @@ pub mod RowLaws
 pub mod MetLaws
 pub mod HandingLaws
 pub mod JudgeLaws
+pub mod Outcomes
