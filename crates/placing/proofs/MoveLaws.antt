@@ -13,7 +13,7 @@ use Rattle.rules.specs.declared.nodes.Offset.the-variants.{At, Undefined}
 use Rattle.theory.proofs.Placed.{toward-is, Unshifted, agree-at, loadsTo-agrees}
 use Rattle.theory.proofs.PlacedSize.{toward-at, join-left}
 use Rattle.placing.specs.declared.rule.Moves.{Moves}
-use Rattle.placing.specs.Moves.{at, goes, meetingAt, moved, moves, movesOf}
+use Rattle.placing.specs.Moves.{at, goes, opOffset, moved, moves, movesOf}
 
 -- what stands at g already stays
 toward-stays : (W g : ℕ) (t : Tree) → agree (at g) (offset W t) ≡ true → toward W g t ≡ t
@@ -65,7 +65,7 @@ load-offset W m w a = goes-at W (m .loads) (a % W) (load w a) refl
 
 -- inputs that agree keep their offset, and others have where they meet
 pub op-offset : (W : ℕ) (m : Moves) (o : ℕ) (l r : Tree) (x y : Offset) → x ≡ offset W (moved W m l) → y ≡ offset W (moved W m r)
-    → offset W (moved W m (op o l r)) ≡ join (meetingAt (m .meeting .0) x y) (join x y)
+    → offset W (moved W m (op o l r)) ≡ opOffset (m .meeting .0) x y
 unfolding moved
 op-offset W m o l r x y p q = rw (← p, ← q) (go (agree x y) refl)
   where

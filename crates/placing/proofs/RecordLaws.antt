@@ -18,7 +18,7 @@ use Rattle.rules.specs.declared.nodes.Offset.the-variants.{At, Undefined}
 use Rattle.rules.specs.declared.nodes.NodeRecord.{NodeRecord}
 use Rattle.graph.specs.Links.{LinkedAt, Linked}
 use Rattle.placing.specs.declared.rule.Moves.{Moves}
-use Rattle.placing.specs.Moves.{at, meetingAt, moved}
+use Rattle.placing.specs.Moves.{at, opOffset, moved}
 use Rattle.placing.specs.Records.{noRecord, nodeIn, offsetIn, leftIn, movedOffset, recordOf, Recorded, NoShift, Ready}
 use Rattle.placing.proofs.MoveLaws.{load-offset, op-offset}
 
@@ -48,9 +48,7 @@ module _ (W : ℕ) (m : Moves) (nodes : List ℕ) (left : ℕ → ℕ) (k : ℕ)
   op-below o e = linked-node (nodeAt nodes) left k l (Op o) e .0
 
   pub op-known : (o : ℕ) → nodeAt nodes k ≡ Op o → (recs : List NodeRecord) → Recorded W m nodes k recs
-      → let x = offsetIn recs (left k) in
-      let y = offsetIn recs (k - 1) in
-      join (meetingAt (m .meeting .0) x y) (join x y) ≡ movedOffset W m (nodeAt nodes) k
+      → opOffset (m .meeting .0) (offsetIn recs (left k)) (offsetIn recs (k - 1)) ≡ movedOffset W m (nodeAt nodes) k
   unfolding Recorded
   op-known o e recs h =
       let below : left k < k = op-below o e in

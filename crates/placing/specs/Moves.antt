@@ -3,7 +3,7 @@
 use Prim.Native.Nat.{ℕ, zero, suc}
 use mathlib.Core.Bool.{cond}
 use Rattle.rules.specs.Trees.{Tree, load, splat, op, shift, bytes}
-use Rattle.rules.specs.Offsets.{storeOffset, agree, offset}
+use Rattle.rules.specs.Offsets.{storeOffset, agree, join, offset}
 use Rattle.rules.specs.Placing.{toward, dominant}
 use Rattle.rules.specs.declared.nodes.Offset.{Offset}
 use Rattle.rules.specs.declared.nodes.Offset.the-variants.{At, Undefined}
@@ -20,6 +20,10 @@ goes W (At g) t = toward W (g .0) t
 -- where two inputs go: nowhere if they agree, else to g
 abbrev pub meetingAt : (g : ℕ) (left right : Offset) → Offset
 meetingAt g left right = cond (agree left right) Undefined (at g)
+
+-- the offset of an op with two such inputs
+abbrev pub opOffset : (g : ℕ) (left right : Offset) → Offset
+opOffset g left right = join (meetingAt g left right) (join left right)
 
 -- a tree with shifts put in, up to its root
 unfoldable pub moved : (W : ℕ) → Moves → Tree → Tree

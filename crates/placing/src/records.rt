@@ -12,8 +12,8 @@ ghost use Rattle.rules.specs.Limits.{vectorBytes, nodesMost};
 ghost use Rattle.rules.specs.Trees.{nodeAt};
 ghost use Rattle.rules.specs.Offsets.{join};
 ghost use Rattle.graph.specs.Links.{Linked};
-ghost use Rattle.placing.specs.Moves.{meetingAt};
-ghost use Rattle.placing.specs.Records.{leftIn, recordOf, Recorded};
+ghost use Rattle.placing.specs.Moves.{meetingAt, opOffset};
+ghost use Rattle.placing.specs.Records.{offsetIn, leftIn, recordOf, Recorded};
 
 // The defined one of two offsets; of two that are defined the first.
 fn join(a: Offset, b: Offset) -> Offset
@@ -26,7 +26,7 @@ fn join(a: Offset, b: Offset) -> Offset
 }
 
 // Where the two inputs of an op go: nowhere if they agree, else to where they meet.
-pub(crate) fn meeting_at(meeting: ByteOffset, left: Offset, right: Offset) -> Offset
+fn meeting_at(meeting: ByteOffset, left: Offset, right: Offset) -> Offset
     ensures { λ r. ⌜ r ≡ meetingAt (meeting .0) left right ⌝ }
 {
     match left {
@@ -42,6 +42,36 @@ pub(crate) fn meeting_at(meeting: ByteOffset, left: Offset, right: Offset) -> Of
             }
         },
     }
+}
+
+fn offset_in(recs: [NodeRecord; 64], k: u8) -> Offset
+    requires { ⌜ k < nodesMost ⌝ }
+    ensures { λ r. ⌜ r ≡ offsetIn recs k ⌝ }
+{
+    let here = recs[k as usize];
+    here.offset
+}
+
+// Where an op's inputs go, by their records.
+pub(crate) fn inputs_meet(recs: [NodeRecord; 64], left: u8, right: u8, meeting: ByteOffset) -> Offset
+    requires { ⌜ (left < nodesMost) × (right < nodesMost) ⌝ }
+    ensures { λ r. ⌜ r ≡ meetingAt (meeting .0) (offsetIn recs left) (offsetIn recs right) ⌝ }
+{
+    let x = offset_in(recs, left);
+    let y = offset_in(recs, right);
+    meeting_at(meeting, x, y)
+}
+
+// An op's offset: where its inputs meet, or else the one that they agree on.
+fn op_offset(recs: [NodeRecord; 64], left: u8, right: u8, meeting: ByteOffset) -> Offset
+    requires { ⌜ (left < nodesMost) × (right < nodesMost) ⌝ }
+    ensures { λ r. ⌜ r ≡ opOffset (meeting .0) (offsetIn recs left) (offsetIn recs right) ⌝ }
+{
+    let x = offset_in(recs, left);
+    let y = offset_in(recs, right);
+    let to = meeting_at(meeting, x, y);
+    let agreed = join(x, y);
+    join(to, agreed)
 }
 
 // The record of node k, from those before it.
@@ -62,16 +92,9 @@ fn record_at(nodes: &[u64], recs: [NodeRecord; 64], lefts: &[u8; 64], moves: Mov
         }
         Node::Splat(_) => NodeRecord { node: node, offset: Offset::Undefined },
         Node::Op(_) => {
-            let at = k as usize;
-            let left = lefts[at] as usize;
-            let last = at - 1;
-            let first = recs[left];
-            let second = recs[last];
-            let x = first.offset;
-            let y = second.offset;
-            let to = meeting_at(meeting, x, y);
-            let kept = join(x, y);
-            let offset = join(to, kept);
+            let left = lefts[k as usize];
+            let right = k - 1;
+            let offset = op_offset(recs, left, right, meeting);
             NodeRecord { node: node, offset: offset }
         }
         Node::Shift(shift) => {

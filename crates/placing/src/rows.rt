@@ -1,5 +1,5 @@
 // The rows of the placed tree, written in postfix order by recursion on node numbers: a node's inputs come before it.
-use crate::records::meeting_at;
+use crate::records::inputs_meet;
 use crate::rule::Moves;
 use crate::rule::V;
 use rules::nodes::Node;
@@ -83,15 +83,11 @@ pub(crate) fn write(
         Node::Splat(value) => put_node(table, row, Row { kind: SPLAT, x: value, y: 0 }, offset, to),
         Node::Op(operation) => {
             let left = lefts[at];
-            let last = k - 1;
-            let first = recs[left as usize];
-            let second = recs[last as usize];
-            let x = first.offset;
-            let y = second.offset;
+            let right = k - 1;
             let meeting = moves.meeting;
-            let meet = meeting_at(meeting, x, y);
+            let meet = inputs_meet(recs, left, right, meeting);
             let middle = write(recs, lefts, moves, left, meet, row, table);
-            let end = write(recs, lefts, moves, last, meet, middle, table);
+            let end = write(recs, lefts, moves, right, meet, middle, table);
             put_node(table, end, Row { kind: OP, x: operation, y: 0 }, offset, to)
         }
         Node::Shift(_) => row,

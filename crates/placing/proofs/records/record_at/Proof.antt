@@ -25,48 +25,16 @@ enum-told-2 c = search needs
 element-copy-out-left : tie.Need-element-copy-out-left
 element-copy-out-left c = search needs
 
-cast-left : tie.Need-cast-left
-cast-left c =
+sub-right : tie.Need-sub-right
+sub-right c =
     let s = c .before .before .before .before .before .before in
-    let is = sym (c .before .before .before .before .node-at .ensures) ∙ c .before .enum-told2 .given .1 in
-    let below = op-below vectorBytes (s .args .moves) (s .args .nodes .now) (leftIn (s .args .lefts .now)) (s .args .k) (s .pre .1 .0) _ is in
-    omega (arith, below)
+    omega (arith, op-below vectorBytes (s .args .moves) (s .args .nodes .now) (leftIn (s .args .lefts .now)) (s .args .k) (s .pre .1 .0) _ (sym (c .before .before .before .before .node-at .ensures) ∙ c .before .enum-told2 .given .1))
 
-sub-last : tie.Need-sub-last
-sub-last c =
+op-offset-requires : tie.Need-op-offset-requires
+op-offset-requires c κs =
     let s = c .before .before .before .before .before .before in
-    let is = sym (c .before .before .before .before .node-at .ensures) ∙ c .before .enum-told2 .given .1 in
-    let below = op-below vectorBytes (s .args .moves) (s .args .nodes .now) (leftIn (s .args .lefts .now)) (s .args .k) (s .pre .1 .0) _ is in
-    omega (arith, below)
-
-mul-first : tie.Need-mul-first
-mul-first c =
-    let s = c .before .before .before .before .before .before in
-    let is = sym (c .before .before .before .before .node-at .ensures) ∙ c .before .enum-told2 .given .1 in
-    let below = op-below vectorBytes (s .args .moves) (s .args .nodes .now) (leftIn (s .args .lefts .now)) (s .args .k) (s .pre .1 .0) _ is in
-    omega (arith, below)
-
-array-copy-out-first : tie.Need-array-copy-out-first
-array-copy-out-first c =
-    let s = c .before .before .before .before .before .before in
-    let is = sym (c .before .before .before .before .node-at .ensures) ∙ c .before .enum-told2 .given .1 in
-    let below = op-below vectorBytes (s .args .moves) (s .args .nodes .now) (leftIn (s .args .lefts .now)) (s .args .k) (s .pre .1 .0) _ is in
-    omega (arith, below)
-
-mul-second : tie.Need-mul-second
-mul-second c = search needs
-
-array-copy-out-second : tie.Need-array-copy-out-second
-array-copy-out-second c = search needs
-
-meeting-at-requires : tie.Need-meeting-at-requires
-meeting-at-requires c κs = search needs
-
-join-requires-2 : tie.Need-join-requires-2
-join-requires-2 c κs = search needs
-
-join-requires-3 : tie.Need-join-requires-3
-join-requires-3 c κs = search needs
+    let below = op-below vectorBytes (s .args .moves) (s .args .nodes .now) (leftIn (s .args .lefts .now)) (s .args .k) (s .pre .1 .0) _ (sym (c .before .before .before .before .node-at .ensures) ∙ c .before .enum-told2 .given .1) in
+    (omega arith, omega arith)
 
 enum-known-node-2 : tie.Need-enum-known-node-2
 enum-known-node-2 c = search needs
@@ -89,11 +57,13 @@ returns-2 c =
 
 returns-3 : tie.Need-returns-3
 returns-3 c =
-    let s = c .before .before .before .before .before .before .before .before .before .before .before in
-    let n = c .before .before .before .before .before .before .before .before .before .node-at .ensures in
-    let is = sym n ∙ c .before .before .before .before .before .before .enum-told2 .given .1 in
+    let s = c .before .before .before .before .before .before .before in
+    let n = c .before .before .before .before .before .node-at .ensures in
+    let is = sym n ∙ c .before .before .enum-told2 .given .1 in
     record-is vectorBytes (s .args .moves) (s .args .nodes .now) (s .args .k) _ _ n
-    (c .join3 .ensures ∙ rw (c .before .join2 .ensures, c .before .before .meeting-at .ensures) (op-known vectorBytes (s .args .moves) (s .args .nodes .now) (leftIn (s .args .lefts .now)) (s .args .k) (s .pre .1 .0) _ is (s .args .t2) (s .pre .1 .1)))
+    (c .op-offset .ensures
+    ∙ op-known vectorBytes (s .args .moves) (s .args .nodes .now) (leftIn (s .args .lefts .now)) (s .args .k) (s .pre .1 .0) _ is (s .args .recs)
+    (s .pre .1 .1))
 
 returns-4 : tie.Need-returns-4
 returns-4 c =
@@ -113,15 +83,8 @@ record-at-spec =
     enum-told
     enum-told-2
     element-copy-out-left
-    cast-left
-    sub-last
-    mul-first
-    array-copy-out-first
-    mul-second
-    array-copy-out-second
-    meeting-at-requires
-    join-requires-2
-    join-requires-3
+    sub-right
+    op-offset-requires
     enum-known-node-2
     returns
     returns-2
