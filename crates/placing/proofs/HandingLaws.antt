@@ -1,29 +1,28 @@
 -- The rows written from a sheet's last node are those of its placed tree; they fit, and with what was zero before they fill the
 -- table as a call hands it back.
-use Prim.Native.Nat.{ℕ, zero, suc, _+_, _-_, _*_, _≤_, _<_}
+use Prim.Native.Nat.{ℕ, zero, suc, _+_, _-_, _≤_}
 use mathlib.Core.Path.{_≡_, refl, sym, ap, _∙_}
-use mathlib.Core.List.{List, [], _∷_, _++_}
+use mathlib.Core.List.{List, [], _∷_}
 use native.Mathlib.Nat.{sub-zero}
 use native.Mathlib.Omega.{arith}
-use lib.ListN.{length, getD, set, take, drop, replicate, length-replicate}
+use lib.ListN.{length, set, drop, replicate, length-replicate}
 use lib.Seq.{sets, sets-eq}
 use Rattle.rules.specs.Limits.{vectorBytes, nodesMost}
-use Rattle.rules.specs.Answers.{DONE}
 use Rattle.rules.specs.Frames.{shiftKind}
 use Rattle.rules.specs.Trees.{Tree, cell, nodeOf, nodeAt, top, waiting, treeAt, treeOf, rows, count}
 use Rattle.rules.specs.Offsets.{storeOffset}
 use Rattle.rules.specs.Placing.{dominant, place}
 use Rattle.rules.specs.Tables.{Graph, padded}
-use Rattle.rules.specs.Calls.{graphTree, placedGraph}
+use Rattle.rules.specs.Calls.{graphTree}
 use Rattle.rules.specs.declared.nodes.Node.{Node}
 use Rattle.rules.specs.declared.nodes.NodeRecord.{NodeRecord}
 use Rattle.rules.specs.declared.nodes.Offset.the-variants.{Undefined}
 use Rattle.theory.proofs.RowLaws.{length-rows}
-use Rattle.theory.proofs.FormLaws.{some-row, formed-count}
+use Rattle.theory.proofs.FormLaws.{some-row}
 use Rattle.theory.proofs.Checked.{sixteen, bare-done, bare-count, graph-unshifted}
 use Rattle.theory.proofs.PlacedSize.{place-count}
 use Rattle.theory.proofs.Placed.{Unshifted}
-use Rattle.graph.specs.Links.{leftOf, lefts, Linked}
+use Rattle.graph.specs.Links.{lefts, Linked}
 use Rattle.graph.proofs.LinkLaws.{lefts-at, formed-linked}
 use Rattle.placing.specs.declared.rule.Moves.{Moves}
 use Rattle.placing.specs.Moves.{at, goes, moved, moves, movesOf}

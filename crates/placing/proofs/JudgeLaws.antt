@@ -1,6 +1,6 @@
 -- What placing refuses, test by test, in the order of the checks; and what the whole call gives and leaves by its answer.
 use Prim.Native.Nat.{ℕ, zero, suc, _*_, _≤_, _<_}
-use mathlib.Core.Path.{_≡_, refl, sym, ap, _∙_}
+use mathlib.Core.Path.{_≡_, sym, ap, _∙_}
 use mathlib.Core.Bool.{Bool, true, false, _||_}
 use mathlib.Core.Logic.{inl, inr}
 use mathlib.Core.List.{List, [], _∷_}
@@ -19,7 +19,7 @@ use Rattle.rules.specs.declared.answers.PlaceAnswer.the-variants as Place
 use Rattle.rules.proofs.answers.PlaceAnswer.{the-type}
 use Rattle.theory.proofs.FormLaws.{Formed, passes-formed, first-done, each-check-done, refuse-done, neither}
 use Rattle.theory.proofs.Firsts.{first-passed, first-refused}
-use Rattle.placing.specs.Handing.{BareSheet, linesAnswer, sheetGiven}
+use Rattle.placing.specs.Handing.{BareSheet, tablesShort, linesAnswer, sheetGiven}
 
 -- ---- a list of one check
 
@@ -51,55 +51,63 @@ module _ (g : Graph) where
 
 -- ---- the whole
 
-abbrev short : (head nodes : List ℕ) → Bool
-short head nodes = headShort head || nodesShort nodes
-
 module _ (rule : ℕ) (head nodes placedHead placedNodes : List ℕ) where
   abbrev found : Answer
   found = placeAnswer vectorBytes rule head nodes placedHead placedNodes
 
-  pub short-given : short head nodes ≡ true → at ROOM 0 ≡ found
+  abbrev short : Bool
+  short = tablesShort head nodes placedHead placedNodes
+
+  pub room-refused : short ≡ true → at ROOM 0 ≡ found
   unfolding first
-  short-given e = rw e
+  room-refused e = rw e
 
-  module _ (roomy : short head nodes ≡ false) where
-    pub short-lent : short placedHead placedNodes ≡ true → at ROOM 0 ≡ found
+  -- what is long enough
+  pub record Roomy : Type 0 where
+    pub given : headShort head || nodesShort nodes ≡ false
+    pub head-lent : headShort placedHead ≡ false
+    pub nodes-lent : nodesShort placedNodes ≡ false
+
+  roomy-tables : short ≡ false → Roomy
+  roomy-tables e =
+      let three : Bool = headShort head || nodesShort nodes || headShort placedHead in
+      let last = neither three (nodesShort placedNodes) e in
+      let both = neither (headShort head || nodesShort nodes) (headShort placedHead) (last .0) in
+      record { given = both .0; head-lent = both .1; nodes-lent = last .1 }
+
+  module _ (roomy : short ≡ false) where
+    pub rule-refused : rulesMost < rule → at RANGE 0 ≡ found
     unfolding first
-    short-lent e = rw (roomy, e)
+    rule-refused h = rw (roomy, lt-ltb rulesMost rule h)
 
-    module _ (lent : short placedHead placedNodes ≡ false) where
-      pub rule-refused : rulesMost < rule → at RANGE 0 ≡ found
+    module _ (known : rule ≤ rulesMost) where
+      abbrev g : Graph
+      g = graphOf head nodes
+
+      to-form : found ≡ first (formCheck vectorBytes g ∷ bareCheck g ∷ alignCheck g ∷ [])
       unfolding first
-      rule-refused h = rw (roomy, lent, lt-ltb rulesMost rule h)
+      to-form = rw (roomy, le-ltb rulesMost rule known)
 
-      module _ (known : rule ≤ rulesMost) where
-        abbrev g : Graph
-        g = graphOf head nodes
+      checked : checking vectorBytes head nodes ≡ first (formCheck vectorBytes g ∷ [])
+      unfolding checking first
+      checked = rw (roomy-tables roomy .given)
 
-        to-form : found ≡ first (formCheck vectorBytes g ∷ bareCheck g ∷ alignCheck g ∷ [])
-        unfolding first
-        to-form = rw (roomy, lent, le-ltb rulesMost rule known)
+      pub form-refused : (number place : ℕ) → at (suc number) place ≡ checking vectorBytes head nodes → at (suc number) place ≡ found
+      form-refused number place e =
+          sym
+          (to-form
+          ∙ first-refused (formCheck vectorBytes g) (bareCheck g ∷ alignCheck g ∷ []) number place
+          (alone (formCheck vectorBytes g) number place (sym (e ∙ checked))))
 
-        checked : checking vectorBytes head nodes ≡ first (formCheck vectorBytes g ∷ [])
-        unfolding checking first
-        checked = rw roomy
+      form-passed : done ≡ checking vectorBytes head nodes → formCheck vectorBytes g .number ≡ DONE
+      form-passed e = first-done (formCheck vectorBytes g) [] (ap (λ (a : Answer). a .number) (sym (e ∙ checked))) .0
 
-        pub form-refused : (number place : ℕ) → at (suc number) place ≡ checking vectorBytes head nodes → at (suc number) place ≡ found
-        form-refused number place e =
-            sym
-            (to-form
-            ∙ first-refused (formCheck vectorBytes g) (bareCheck g ∷ alignCheck g ∷ []) number place
-            (alone (formCheck vectorBytes g) number place (sym (e ∙ checked))))
+      pub form-formed : done ≡ checking vectorBytes head nodes → Formed vectorBytes g
+      form-formed e = passes-formed vectorBytes g (form-passed e)
 
-        form-passed : done ≡ checking vectorBytes head nodes → formCheck vectorBytes g .number ≡ DONE
-        form-passed e = first-done (formCheck vectorBytes g) [] (ap (λ (a : Answer). a .number) (sym (e ∙ checked))) .0
-
-        pub form-formed : done ≡ checking vectorBytes head nodes → Formed vectorBytes g
-        form-formed e = passes-formed vectorBytes g (form-passed e)
-
-        pub lines-judged : done ≡ checking vectorBytes head nodes → (answer : Answer) → answer ≡ linesAnswer g → answer ≡ found
-        lines-judged e answer l =
-            l ∙ sym (to-form ∙ done-first (formCheck vectorBytes g) (bareCheck g ∷ alignCheck g ∷ []) (form-passed e))
+      pub lines-judged : done ≡ checking vectorBytes head nodes → (answer : Answer) → answer ≡ linesAnswer g → answer ≡ found
+      lines-judged e answer l =
+          l ∙ sym (to-form ∙ done-first (formCheck vectorBytes g) (bareCheck g ∷ alignCheck g ∷ []) (form-passed e))
 
   -- ---- by the answer
 
@@ -113,13 +121,11 @@ module _ (rule : ℕ) (head nodes placedHead placedNodes : List ℕ) where
   done-placeable e =
       let number : found .number ≡ DONE = ap (λ (a : Answer). a .number) (sym e) in
       let passed = each-check-done _ number in
-      let most : Bool = short head nodes || headShort placedHead in
-      let room = neither most (nodesShort placedNodes) (refuse-done (most || nodesShort placedNodes) 0 0 (passed 0)) in
-      let lent = neither (short head nodes) (headShort placedHead) (room .0) in
+      let room = roomy-tables (refuse-done short 0 0 (passed 0)) in
       record {
         sheet = record { formed = passes-formed vectorBytes (graphOf head nodes) (passed 2); bare = passed 3 };
-        head-room = ltb-false (length placedHead) headEntries (lent .1);
-        nodes-room = ltb-false (length placedNodes) (rowEntries * nodesMost) (room .1);
+        head-room = ltb-false (length placedHead) headEntries (room .head-lent);
+        nodes-room = ltb-false (length placedNodes) (rowEntries * nodesMost) (room .nodes-lent);
       }
 
   abbrev made : Graph

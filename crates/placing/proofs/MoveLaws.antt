@@ -2,10 +2,10 @@
 -- ops agree, so it does not matter where they would meet; where loads stay the two definitions go alike. The root is sent to c by
 -- every rule: EAGER's stands there already.
 use Prim.Native.Nat.{ℕ, zero, suc, _%_}
-use mathlib.Core.Path.{_≡_, refl, sym, ap, ap₂, _∙_}
+use mathlib.Core.Path.{_≡_, refl, sym, ap, _∙_}
 use mathlib.Core.Bool.{Bool, true, false, cond, false≢true}
 use borrow.Author.Tests.{eqb-true}
-use Rattle.rules.specs.Trees.{Tree, load, splat, op, shift, bytes}
+use Rattle.rules.specs.Trees.{Tree, load, splat, op, shift}
 use Rattle.rules.specs.Offsets.{storeOffset, agree, join, offset}
 use Rattle.rules.specs.Placing.{toward, loadsTo, inputsTo, dominant, place}
 use Rattle.rules.specs.declared.nodes.Offset.{Offset}

@@ -7,7 +7,7 @@ use native.Mathlib.Omega.{arith}
 use borrow.Author.Count.{below-more}
 use lib.ListN.{length, getD, set}
 use lib.Seq.{getD-set-same, getD-set-other}
-use Rattle.rules.specs.Trees.{Tree, load, splat, op, shift, nodeAt, push, top, waiting, treeAt}
+use Rattle.rules.specs.Trees.{Tree, op, shift, nodeAt, top, waiting, treeAt}
 use Rattle.rules.specs.Offsets.{join, offset}
 use Rattle.rules.specs.declared.nodes.LoadAt.{LoadAt}
 use Rattle.rules.specs.declared.nodes.ShiftBy.{ShiftBy}

@@ -1,6 +1,6 @@
 -- The rows of a node's placed tree are those of its inputs' placed trees, its own row, and a shift where the offset is defined and
 -- changes. Rows written one after the other are written as one.
-use Prim.Native.Nat.{ℕ, zero, suc, _+_, _-_, _*_, _%_, _≤_, _<_}
+use Prim.Native.Nat.{ℕ, suc, _+_, _-_, _*_, _%_, _≤_, _<_}
 use mathlib.Core.Path.{_≡_, refl, sym, ap, _∙_}
 use mathlib.Core.Bool.{Bool, true, false, cond}
 use mathlib.Core.List.{List, [], _∷_, _++_, append-nil, append-assoc}
@@ -11,12 +11,12 @@ use lib.ListN.{length, set, length-append}
 use lib.Seq.{sets}
 use Rattle.rules.specs.Limits.{rowEntries}
 use Rattle.rules.specs.Frames.{loadKind, splatKind, opKind, shiftKind}
-use Rattle.rules.specs.Trees.{Tree, load, splat, op, shift, treeAt, rows}
+use Rattle.rules.specs.Trees.{Tree, load, shift, treeAt, rows}
 use Rattle.rules.specs.Offsets.{offset}
 use Rattle.rules.specs.Placing.{shifted, toward}
 use Rattle.rules.specs.declared.nodes.LoadAt.{LoadAt}
 use Rattle.rules.specs.declared.nodes.Node.{Node}
-use Rattle.rules.specs.declared.nodes.Node.the-variants.{Load, Splat, Op, Shift}
+use Rattle.rules.specs.declared.nodes.Node.the-variants.{Load, Splat, Op}
 use Rattle.rules.specs.declared.nodes.Offset.{Offset}
 use Rattle.rules.specs.declared.nodes.Offset.the-variants.{At, Undefined}
 use Rattle.rules.specs.declared.nodes.NodeRecord.{NodeRecord}

@@ -10,7 +10,7 @@ ghost use Rattle.rules.specs.Answers.{ofPlace};
 ghost use Rattle.rules.specs.Checks.{headShort, nodesShort};
 ghost use Rattle.rules.specs.Calls.{placeAnswer};
 ghost use Rattle.graph.specs.Headers.{graphIn};
-ghost use Rattle.placing.specs.Handing.{linesAnswer};
+ghost use Rattle.placing.specs.Handing.{tablesShort, linesAnswer};
 
 const HEAD_ENTRIES: usize = 10;
 
@@ -27,6 +27,16 @@ fn too_short(head: &[u64], nodes: &[u64]) -> bool
         return true;
     }
     nodes.len() < NODE_ENTRIES
+}
+
+// Whether one of the four tables is.
+fn lacks_room(head: &[u64], nodes: &[u64], placed_head: &[u64], placed_nodes: &[u64]) -> bool
+    ensures { λ r. ⌜ r ≡ tablesShort (now (head .entry)) (now (nodes .entry)) (now («placed_head» .entry)) (now («placed_nodes» .entry)) ⌝ }
+{
+    if too_short(head, nodes) {
+        return true;
+    }
+    too_short(placed_head, placed_nodes)
 }
 
 // The lines of a sheet that passes as if read: BARE, then ALIGN.
@@ -55,10 +65,7 @@ pub(crate) fn judge(
 ) -> PlaceAnswer
     ensures { λ r. ⌜ ofPlace r ≡ placeAnswer vectorBytes rule (now (head .entry)) (now (nodes .entry)) (now («placed_head» .entry)) (now («placed_nodes» .entry)) ⌝ }
 {
-    if too_short(head, nodes) {
-        return PlaceAnswer::Room;
-    }
-    if too_short(placed_head, placed_nodes) {
+    if lacks_room(head, nodes, placed_head, placed_nodes) {
         return PlaceAnswer::Room;
     }
     if RULES_MOST < rule {

@@ -55,7 +55,13 @@ fn put_head(head: &[u64], count: u8, placed_head: &mut [u64])
     tables::put(placed_head, COUNT, count as u64);
 }
 
-pub(crate) fn hand_back(rule: u64, head: &[u64], nodes: &[u64], placed_head: &mut [u64], placed_nodes: &mut [u64])
+pub(crate) fn hand_back(
+    rule: u64,
+    head: &[u64],
+    nodes: &[u64],
+    placed_head: &mut [u64],
+    placed_nodes: &mut [u64],
+)
     requires { ⌜ BareSheet (graphOf (now head) (now nodes)) ⌝ }
     requires { ⌜ (headEntries ≤ length (now «placed_head»)) × (rowEntries * nodesMost ≤ length (now «placed_nodes»)) ⌝ }
     ensures { λ _. ⌜ now («placed_head» .exit) ≡ padded (length (now («placed_head» .entry))) (headOf (placedGraph vectorBytes rule (graphOf (now (head .entry)) (now (nodes .entry))))) ⌝ }

@@ -53,7 +53,12 @@ fn offset_in(recs: [NodeRecord; 64], k: u8) -> Offset
 }
 
 // Where an op's inputs go, by their records.
-pub(crate) fn inputs_meet(recs: [NodeRecord; 64], left: u8, right: u8, meeting: ByteOffset) -> Offset
+pub(crate) fn inputs_meet(
+    recs: [NodeRecord; 64],
+    left: u8,
+    right: u8,
+    meeting: ByteOffset,
+) -> Offset
     requires { ⌜ (left < nodesMost) × (right < nodesMost) ⌝ }
     ensures { λ r. ⌜ r ≡ meetingAt (meeting .0) (offsetIn recs left) (offsetIn recs right) ⌝ }
 {
@@ -75,7 +80,13 @@ fn op_offset(recs: [NodeRecord; 64], left: u8, right: u8, meeting: ByteOffset) -
 }
 
 // The record of node k, from those before it.
-fn record_at(nodes: &[u64], recs: [NodeRecord; 64], lefts: &[u8; 64], moves: Moves, k: u8) -> NodeRecord
+fn record_at(
+    nodes: &[u64],
+    recs: [NodeRecord; 64],
+    lefts: &[u8; 64],
+    moves: Moves,
+    k: u8,
+) -> NodeRecord
     requires { ⌜ k < nodesMost ⌝ }
     requires { ⌜ Linked (nodeAt (now nodes)) (leftIn (now lefts)) (k + 1) ⌝ }
     requires { ⌜ Recorded vectorBytes moves (now nodes) k recs ⌝ }
@@ -88,19 +99,31 @@ fn record_at(nodes: &[u64], recs: [NodeRecord; 64], lefts: &[u8; 64], moves: Mov
         Node::Load(load) => {
             let here = Offset::At(ByteOffset(load.address.0 % V));
             let offset = join(loads, here);
-            NodeRecord { node: node, offset: offset }
+            NodeRecord {
+                node: node,
+                offset: offset,
+            }
         }
-        Node::Splat(_) => NodeRecord { node: node, offset: Offset::Undefined },
+        Node::Splat(_) => NodeRecord {
+            node: node,
+            offset: Offset::Undefined,
+        },
         Node::Op(_) => {
             let left = lefts[k as usize];
             let right = k - 1;
             let offset = op_offset(recs, left, right, meeting);
-            NodeRecord { node: node, offset: offset }
+            NodeRecord {
+                node: node,
+                offset: offset,
+            }
         }
         Node::Shift(shift) => {
             let to = shift.to;
             let offset = Offset::At(to);
-            NodeRecord { node: node, offset: offset }
+            NodeRecord {
+                node: node,
+                offset: offset,
+            }
         }
     }
 }
@@ -110,7 +133,10 @@ pub(crate) fn records(nodes: &[u64], lefts: &[u8; 64], moves: Moves, count: u8) 
     requires { ⌜ Linked (nodeAt (now nodes)) (leftIn (now lefts)) count ⌝ }
     ensures { λ r. ⌜ Recorded vectorBytes moves (now (nodes .entry)) count r ⌝ }
 {
-    let none = NodeRecord { node: Node::Splat(0), offset: Offset::Undefined };
+    let none = NodeRecord {
+        node: Node::Splat(0),
+        offset: Offset::Undefined,
+    };
     let mut recs = [none; 64];
     let mut k: u8 = 0;
     while k < count {

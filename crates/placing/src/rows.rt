@@ -36,7 +36,15 @@ fn put_shift(table: &mut [u64], row: u8, here: Offset, to: Offset) -> u8
                 if a.0 == g.0 {
                     return row;
                 }
-                tables::put_row(table, row, Row { kind: SHIFT, x: a.0, y: g.0 });
+                tables::put_row(
+                    table,
+                    row,
+                    Row {
+                        kind: SHIFT,
+                        x: a.0,
+                        y: g.0,
+                    },
+                );
                 row + 1
             }
         },
@@ -77,10 +85,30 @@ pub(crate) fn write(
             let address = load.address.0;
             let stands = Offset::At(ByteOffset(address % V));
             let loads = moves.loads;
-            let next = put_node(table, row, Row { kind: LOAD, x: load.window, y: address }, stands, loads);
+            let next = put_node(
+                table,
+                row,
+                Row {
+                    kind: LOAD,
+                    x: load.window,
+                    y: address,
+                },
+                stands,
+                loads,
+            );
             put_shift(table, next, offset, to)
         }
-        Node::Splat(value) => put_node(table, row, Row { kind: SPLAT, x: value, y: 0 }, offset, to),
+        Node::Splat(value) => put_node(
+            table,
+            row,
+            Row {
+                kind: SPLAT,
+                x: value,
+                y: 0,
+            },
+            offset,
+            to,
+        ),
         Node::Op(operation) => {
             let left = lefts[at];
             let right = k - 1;
@@ -88,7 +116,17 @@ pub(crate) fn write(
             let meet = inputs_meet(recs, left, right, meeting);
             let middle = write(recs, lefts, moves, left, meet, row, table);
             let end = write(recs, lefts, moves, right, meet, middle, table);
-            put_node(table, end, Row { kind: OP, x: operation, y: 0 }, offset, to)
+            put_node(
+                table,
+                end,
+                Row {
+                    kind: OP,
+                    x: operation,
+                    y: 0,
+                },
+                offset,
+                to,
+            )
         }
         Node::Shift(_) => row,
     }

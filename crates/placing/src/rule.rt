@@ -8,7 +8,8 @@ ghost use Rattle.rules.specs.Limits.{vectorBytes};
 ghost use Rattle.rules.specs.Trees.{treeOf};
 ghost use Rattle.theory.proofs.FormLaws.{Formed};
 ghost use Rattle.graph.specs.Headers.{graphIn};
-ghost use Rattle.placing.specs.Moves.{movesOf};
+ghost use Rattle.rules.specs.declared.nodes.Offset.the-variants.{Undefined};
+ghost use Rattle.placing.specs.Moves.{at, moves, movesOf};
 
 // Bytes of a vector.
 pub(crate) const V: u64 = 16;
@@ -19,7 +20,26 @@ pub(crate) struct Moves {
     pub meeting: ByteOffset,
 }
 
-// By ZERO and EAGER the inputs of an op never disagree: they meet where they stand.
+// Each load goes to g. The inputs of ops then agree; were they not to, they would meet there.
+fn loads_to(g: ByteOffset) -> Moves
+    ensures { λ r. ⌜ r ≡ moves (at (g .0)) (g .0) ⌝ }
+{
+    Moves {
+        loads: Offset::At(g),
+        meeting: g,
+    }
+}
+
+// Loads stay, and inputs that disagree go to g.
+fn inputs_to(g: ByteOffset) -> Moves
+    ensures { λ r. ⌜ r ≡ moves Undefined (g .0) ⌝ }
+{
+    Moves {
+        loads: Offset::Undefined,
+        meeting: g,
+    }
+}
+
 pub(crate) fn moves_of(rule: u64, head: Header, nodes: &[u64]) -> Moves
     requires { ⌜ Formed vectorBytes (graphIn head (now nodes)) ⌝ }
     ensures { λ r. ⌜ r ≡ movesOf vectorBytes (head .store .0) rule (treeOf (now (nodes .entry)) (head .count)) ⌝ }
@@ -27,12 +47,9 @@ pub(crate) fn moves_of(rule: u64, head: Header, nodes: &[u64]) -> Moves
     let zero = ByteOffset(0);
     let c = ByteOffset(head.store.0 % V);
     match rule {
-        0 => Moves { loads: Offset::At(zero), meeting: zero },
-        1 => Moves { loads: Offset::At(c), meeting: c },
-        2 => Moves { loads: Offset::Undefined, meeting: c },
-        _ => {
-            let most = dominant(head, nodes);
-            Moves { loads: Offset::Undefined, meeting: most }
-        }
+        0 => loads_to(zero),
+        1 => loads_to(c),
+        2 => inputs_to(c),
+        _ => inputs_to(dominant(head, nodes)),
     }
 }

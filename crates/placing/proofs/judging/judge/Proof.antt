@@ -1,34 +1,24 @@
 use mathlib.Core.Path.{sym, _∙_}
 use Rattle.rules.specs.Limits.{vectorBytes}
 use Rattle.graph.proofs.HeaderLaws.{header-graph}
-use Rattle.placing.proofs.JudgeLaws.{short-given, short-lent, rule-refused, form-refused, form-formed, lines-judged}
+use Rattle.placing.proofs.JudgeLaws.{room-refused, rule-refused, form-refused, form-formed, lines-judged}
 use borrow.Author.Needs.{needs}
 use Rattle.placing.proofs.judging.judge.Statement.{statement}
 use Rattle.placing.proofs.judging.judge.Tie as tie
 
-too-short-requires : tie.Need-too-short-requires
-too-short-requires c κs = search needs
+lacks-room-requires : tie.Need-lacks-room-requires
+lacks-room-requires c κs = search needs
 
 returns : tie.Need-returns
 returns c =
     let a = c .before .before .before .before .before .before .args in
-    short-given (a .rule) (a .head .now) (a .nodes .now) (a .placed-head .now) (a .placed-nodes .now) (sym (c .before .too-short .ensures) ∙ c .if1 .taken)
-
-too-short-requires-2 : tie.Need-too-short-requires-2
-too-short-requires-2 c κs = search needs
+    room-refused (a .rule) (a .head .now) (a .nodes .now) (a .placed-head .now) (a .placed-nodes .now) (sym (c .before .lacks-room .ensures) ∙ c .if1 .taken)
 
 returns-2 : tie.Need-returns-2
 returns-2 c =
-    let a = c .before .before .before .before .before .before .before .before .args in
-    let given = sym (c .before .before .before .too-short .ensures) ∙ c .before .before .if1 .left in
-    short-lent (a .rule) (a .head .now) (a .nodes .now) (a .placed-head .now) (a .placed-nodes .now) given (sym (c .before .too-short2 .ensures) ∙ c .if2 .taken)
-
-returns-3 : tie.Need-returns-3
-returns-3 c =
-    let a = c .before .before .before .before .before .before .before .before .before .args in
-    let given = sym (c .before .before .before .before .too-short .ensures) ∙ c .before .before .before .if1 .left in
-    let lent = sym (c .before .before .too-short2 .ensures) ∙ c .before .if2 .left in
-    rule-refused (a .rule) (a .head .now) (a .nodes .now) (a .placed-head .now) (a .placed-nodes .now) given lent (c .if3 .taken)
+    let a = c .before .before .before .before .before .before .before .args in
+    let roomy = sym (c .before .before .lacks-room .ensures) ∙ c .before .if1 .left in
+    rule-refused (a .rule) (a .head .now) (a .nodes .now) (a .placed-head .now) (a .placed-nodes .now) roomy (c .if2 .taken)
 
 check-requires : tie.Need-check-requires
 check-requires c κs = search needs
@@ -51,47 +41,45 @@ header-of-requires c κs = search needs
 judge-lines-requires : tie.Need-judge-lines-requires
 judge-lines-requires c κs = search needs
 
+returns-3 : tie.Need-returns-3
+returns-3 c =
+    let a = c .before .before .before .before .before .before .before .before .before .before .args in
+    let roomy = sym (c .before .before .before .before .before .lacks-room .ensures) ∙ c .before .before .before .before .if1 .left in
+    form-refused (a .rule) (a .head .now) (a .nodes .now) (a .placed-head .now) (a .placed-nodes .now) roomy (c .before .before .before .if2 .left) _ _
+    (rw (c .enum-told .given .1) at (c .before .before .check .ensures))
+
 returns-4 : tie.Need-returns-4
 returns-4 c =
-    let a = c .before .before .before .before .before .before .before .before .before .before .before .before .args in
-    let given = sym (c .before .before .before .before .before .before .before .too-short .ensures) ∙ c .before .before .before .before .before .before .if1 .left in
-    let lent = sym (c .before .before .before .before .before .too-short2 .ensures) ∙ c .before .before .before .before .if2 .left in
-    form-refused (a .rule) (a .head .now) (a .nodes .now) (a .placed-head .now) (a .placed-nodes .now) given lent (c .before .before .before .if3 .left) _ _ (rw (c .enum-told .given .1) at (c .before .before .check .ensures))
+    let a = c .before .before .before .before .before .before .before .before .before .before .before .args in
+    let roomy = sym (c .before .before .before .before .before .before .lacks-room .ensures) ∙ c .before .before .before .before .before .if1 .left in
+    form-refused (a .rule) (a .head .now) (a .nodes .now) (a .placed-head .now) (a .placed-nodes .now) roomy (c .before .before .before .before .if2 .left) _ _
+    (rw (c .before .form .given .1) at (c .before .before .before .check .ensures))
 
 returns-5 : tie.Need-returns-5
 returns-5 c =
-    let a = c .before .before .before .before .before .before .before .before .before .before .before .before .before .args in
-    let given = sym (c .before .before .before .before .before .before .before .before .too-short .ensures) ∙ c .before .before .before .before .before .before .before .if1 .left in
-    let lent = sym (c .before .before .before .before .before .before .too-short2 .ensures) ∙ c .before .before .before .before .before .if2 .left in
-    form-refused (a .rule) (a .head .now) (a .nodes .now) (a .placed-head .now) (a .placed-nodes .now) given lent (c .before .before .before .before .if3 .left) _ _ (rw (c .before .form .given .1) at (c .before .before .before .check .ensures))
+    let a = c .before .before .before .before .before .before .before .before .before .before .before .args in
+    let roomy = sym (c .before .before .before .before .before .before .lacks-room .ensures) ∙ c .before .before .before .before .before .if1 .left in
+    form-refused (a .rule) (a .head .now) (a .nodes .now) (a .placed-head .now) (a .placed-nodes .now) roomy (c .before .before .before .before .if2 .left) _ _
+    (rw (c .before .form2 .given .1) at (c .before .before .before .check .ensures))
 
 returns-6 : tie.Need-returns-6
 returns-6 c =
-    let a = c .before .before .before .before .before .before .before .before .before .before .before .before .before .args in
-    let given = sym (c .before .before .before .before .before .before .before .before .too-short .ensures) ∙ c .before .before .before .before .before .before .before .if1 .left in
-    let lent = sym (c .before .before .before .before .before .before .too-short2 .ensures) ∙ c .before .before .before .before .before .if2 .left in
-    form-refused (a .rule) (a .head .now) (a .nodes .now) (a .placed-head .now) (a .placed-nodes .now) given lent (c .before .before .before .before .if3 .left) _ _ (rw (c .before .form2 .given .1) at (c .before .before .before .check .ensures))
-
-returns-7 : tie.Need-returns-7
-returns-7 c =
-    let a = c .before .before .before .before .before .before .before .before .before .before .before .before .before .before .args in
-    let given = sym (c .before .before .before .before .before .before .before .before .before .too-short .ensures) ∙ c .before .before .before .before .before .before .before .before .if1 .left in
-    let lent = sym (c .before .before .before .before .before .before .before .too-short2 .ensures) ∙ c .before .before .before .before .before .before .if2 .left in
+    let a = c .before .before .before .before .before .before .before .before .before .before .before .before .args in
+    let roomy = sym (c .before .before .before .before .before .before .before .lacks-room .ensures) ∙ c .before .before .before .before .before .before .if1 .left in
+    let known = c .before .before .before .before .before .if2 .left in
     let passed = rw (c .before .before .enum-told2 .given .1) at (c .before .before .before .before .check .ensures) in
-    let known = c .before .before .before .before .before .if3 .left in
-    let formed = form-formed (a .rule) (a .head .now) (a .nodes .now) (a .placed-head .now) (a .placed-nodes .now) given lent known passed in
+    let formed = form-formed (a .rule) (a .head .now) (a .nodes .now) (a .placed-head .now) (a .placed-nodes .now) roomy known passed in
     let same = header-graph vectorBytes (a .head .now) (a .nodes .now) formed in
-    lines-judged (a .rule) (a .head .now) (a .nodes .now) (a .placed-head .now) (a .placed-nodes .now) given lent known passed _ (rw (c .before .header-of .ensures, same) at (c .judge-lines .ensures))
+    lines-judged (a .rule) (a .head .now) (a .nodes .now) (a .placed-head .now) (a .placed-nodes .now) roomy known passed _
+    (rw (c .before .header-of .ensures, same) at (c .judge-lines .ensures))
 
 pub judge-spec : {M : Type 1} → statement M
 judge-spec =
     tie.close
     (tie.spec
-    too-short-requires
+    lacks-room-requires
     returns
-    too-short-requires-2
     returns-2
-    returns-3
     check-requires
     enum-told
     enum-known-form
@@ -99,7 +87,7 @@ judge-spec =
     enum-told-2
     header-of-requires
     judge-lines-requires
+    returns-3
     returns-4
     returns-5
-    returns-6
-    returns-7)
+    returns-6)

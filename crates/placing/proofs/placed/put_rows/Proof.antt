@@ -39,10 +39,13 @@ write-requires c κs =
     let left = c .before .before .before .before .before .before .before .before .before .left-inputs .ensures in
     let moves = c .before .before .before .before .before .before .before .before .moves-of .ensures in
     let count : g .N - 1 + 1 ≡ g .N = omega (arith, has-last g (s .pre .0)) in
-    let room = placed-room g (s .pre .0) (s .args .rule) in
-    (omega (arith, has-last g (s .pre .0), s .pre .0 .formed .most),
-        (rw count (sheet-ready g (s .pre .0) (s .args .rule) _ _ is _ left),
-            rw (last-rows g (s .pre .0) (s .args .rule) _ _ is moves) (omega (arith, room))))
+    let room = placed-room g (s .pre .0) (s .args .rule) in (
+      omega (arith, has-last g (s .pre .0), s .pre .0 .formed .most),
+      (
+        rw count (sheet-ready g (s .pre .0) (s .args .rule) _ _ is _ left),
+        rw (last-rows g (s .pre .0) (s .args .rule) _ _ is moves) (omega (arith, room)),
+      ),
+    )
 
 same-length : tie.Need-same-length
 same-length c = search needs

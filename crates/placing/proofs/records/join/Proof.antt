@@ -1,8 +1,6 @@
 use borrow.Author.Needs.{needs}
 use Rattle.placing.proofs.records.join.Statement.{statement}
 use Rattle.placing.proofs.records.join.Tie as tie
-use Rattle.placing.proofs.records.join.Reads as reads
-use Rattle.placing.proofs.records.join.Lts as lts
 
 enum-told : tie.Need-enum-told
 enum-told c = search needs

@@ -2,8 +2,6 @@ use borrow.Author.Tests.{eq-eqb, ne-eqb}
 use borrow.Author.Needs.{needs}
 use Rattle.placing.proofs.records.meeting_at.Statement.{statement}
 use Rattle.placing.proofs.records.meeting_at.Tie as tie
-use Rattle.placing.proofs.records.meeting_at.Reads as reads
-use Rattle.placing.proofs.records.meeting_at.Lts as lts
 
 enum-told : tie.Need-enum-told
 enum-told c = search needs

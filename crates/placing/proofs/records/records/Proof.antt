@@ -42,9 +42,11 @@ loop-less c = omega arith
 loop-again : tie.Need-loop-again Inv-loop μ-loop
 loop-again c =
     let s = c .before .before .before .before in
-    let l = c .before .before .loop in
-    (omega arith, simp length-set (l .inv .1),
-        recorded-next 16 (s .args .moves) (s .args .nodes .now) (l .k) (l .recs) _ (omega arith) (l .inv .2) (c .record-at .ensures))
+    let l = c .before .before .loop in (
+      omega arith,
+      simp length-set (l .inv .1),
+      recorded-next 16 (s .args .moves) (s .args .nodes .now) (l .k) (l .recs) _ (omega arith) (l .inv .2) (c .record-at .ensures),
+    )
 
 returns : tie.Need-returns Inv-loop μ-loop
 returns c =

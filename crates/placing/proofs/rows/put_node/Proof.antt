@@ -2,10 +2,6 @@ use Rattle.placing.proofs.RowLaws.{wrote-row, wrote-on}
 use borrow.Author.Needs.{needs}
 use Rattle.placing.proofs.rows.put_node.Statement.{statement}
 use Rattle.placing.proofs.rows.put_node.Tie as tie
-use Rattle.placing.proofs.rows.put_node.Reads as reads
-use Rattle.placing.proofs.rows.put_node.Lts as lts
-use Rattle.placing.proofs.rows.put_shift.Reads as put-shift-reads
-use Rattle.tables.proofs.put_row.Reads as put-row-reads
 
 put-row-requires : tie.Need-put-row-requires
 put-row-requires c κs = search needs

@@ -3,9 +3,6 @@ use Rattle.placing.proofs.RowLaws.{wrote-none, wrote-row}
 use borrow.Author.Needs.{needs}
 use Rattle.placing.proofs.rows.put_shift.Statement.{statement}
 use Rattle.placing.proofs.rows.put_shift.Tie as tie
-use Rattle.placing.proofs.rows.put_shift.Reads as reads
-use Rattle.placing.proofs.rows.put_shift.Lts as lts
-use Rattle.tables.proofs.put_row.Reads as put-row-reads
 
 enum-told : tie.Need-enum-told
 enum-told c = search needs
