@@ -131,7 +131,7 @@ place-plain D S work table W rule t (suc i) =
 -- ---- "The root must agree with c"
 
 -- two that agree with g agree
-agree-at : (g : ℕ) (a b : Offset) → agree (At (bytes g)) a ≡ true → agree (At (bytes g)) b ≡ true → agree a b ≡ true
+pub agree-at : (g : ℕ) (a b : Offset) → agree (At (bytes g)) a ≡ true → agree (At (bytes g)) b ≡ true → agree a b ≡ true
 agree-at g Undefined b p q = refl
 agree-at g (At a) Undefined p q = refl
 agree-at g (At a) (At b) p q = eq-eqb (a .0) (b .0) (sym (eqb-true g (a .0) p) ∙ eqb-true g (b .0) q)
@@ -143,7 +143,7 @@ agree-join g (At a) b p q = p
 pub toward-agrees : (W g : ℕ) (t : Tree) → agree (At (bytes g)) (offset W (toward W g t)) ≡ true
 toward-agrees W g t = toward-is (λ p. agree (At (bytes g)) (offset W p) ≡ true) W g t (λ e. e) (λ a e d. eq-eqb g g refl)
 
-loadsTo-agrees : (W g : ℕ) (t : Tree) → Unshifted t → agree (At (bytes g)) (offset W (loadsTo W g t)) ≡ true
+pub loadsTo-agrees : (W g : ℕ) (t : Tree) → Unshifted t → agree (At (bytes g)) (offset W (loadsTo W g t)) ≡ true
 unfolding loadsTo
 loadsTo-agrees W g (load w a) b = toward-agrees W g (load w a)
 loadsTo-agrees W g (splat v) b = refl

@@ -44,7 +44,7 @@ toward-size W g t = toward-is (λ p. G p ≤ 2 * G t + 1) W g t (λ e. omega ari
 toward-count : (W g : ℕ) (t : Tree) → count (toward W g t) ≤ count t + 1
 toward-count W g t = toward-is (λ p. count p ≤ count t + 1) W g t (λ e. omega arith) (λ a e d. omega arith)
 
-toward-at : (W g a : ℕ) (t : Tree) → offset W t ≡ At (bytes a) → offset W (toward W g t) ≡ At (bytes g)
+pub toward-at : (W g a : ℕ) (t : Tree) → offset W t ≡ At (bytes a) → offset W (toward W g t) ≡ At (bytes g)
 toward-at W g a t e = toward-is (λ p. offset W p ≡ At (bytes g)) W g t
     (λ q. e ∙ ap (λ (x : ℕ). At (bytes x)) (sym (eqb-true g a (rw e at q)))) (λ b p d. refl)
 
@@ -70,7 +70,7 @@ toward-slim W g N t s = toward-is (λ p. G p ≤ 2 * N + 1) W g t (λ e. s .size
     same a g p = let q : bytes a ≡ bytes g = cc in ap (λ (x : ByteOffset). x .0) q
 
 -- where one of two that agree stands at g, their join does
-join-left : (g : ℕ) (a b : Offset) → a ≡ At (bytes g) → join a b ≡ At (bytes g)
+pub join-left : (g : ℕ) (a b : Offset) → a ≡ At (bytes g) → join a b ≡ At (bytes g)
 join-left g Undefined b p = cc
 join-left g (At a) b p = p
 

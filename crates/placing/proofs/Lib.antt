@@ -1,0 +1,7 @@
+pub mod MoveLaws
+pub mod RecordLaws
+pub mod RowLaws
+pub mod MetLaws
+pub mod HandingLaws
+pub mod JudgeLaws
+pub mod Outcomes

@@ -1,0 +1,5 @@
+pub mod Moves
+pub mod Writing
+pub mod Records
+pub mod Met
+pub mod Handing

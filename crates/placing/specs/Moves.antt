@@ -1,0 +1,45 @@
+-- "Placing", the four rules as one: where each load goes, undefined where it stays, and where the inputs of an op that disagree
+-- meet; the root goes to c by every rule. W is the bytes of a vector.
+use Prim.Native.Nat.{ℕ, zero, suc}
+use mathlib.Core.Bool.{cond}
+use Rattle.rules.specs.Trees.{Tree, load, splat, op, shift, bytes}
+use Rattle.rules.specs.Offsets.{storeOffset, agree, join, offset}
+use Rattle.rules.specs.Placing.{toward, dominant}
+use Rattle.rules.specs.declared.nodes.Offset.{Offset}
+use Rattle.rules.specs.declared.nodes.Offset.the-variants.{At, Undefined}
+use Rattle.placing.specs.declared.rule.Moves.{Moves}
+
+abbrev pub at : ℕ → Offset
+at g = At (bytes g)
+
+-- t goes to an offset, or stays
+abbrev pub goes : (W : ℕ) → Offset → Tree → Tree
+goes W Undefined t = t
+goes W (At g) t = toward W (g .0) t
+
+-- where two inputs go: nowhere if they agree, else to g
+abbrev pub meetingAt : (g : ℕ) (left right : Offset) → Offset
+meetingAt g left right = cond (agree left right) Undefined (at g)
+
+-- the offset of an op with two such inputs
+abbrev pub opOffset : (g : ℕ) (left right : Offset) → Offset
+opOffset g left right = join (meetingAt g left right) (join left right)
+
+-- a tree with shifts put in, up to its root
+unfoldable pub moved : (W : ℕ) → Moves → Tree → Tree
+moved W m (load w a) = goes W (m .loads) (load w a)
+moved W m (splat v) = splat v
+moved W m (op o l r) =
+    let to = meetingAt (m .meeting .0) (offset W (moved W m l)) (offset W (moved W m r)) in
+    op o (goes W to (moved W m l)) (goes W to (moved W m r))
+moved W m (shift f g t) = shift f g (moved W m t)
+
+abbrev pub moves : (loads : Offset) (meeting : ℕ) → Moves
+moves loads meeting = record { loads = loads; meeting = bytes meeting }
+
+-- 0 ZERO, 1 EAGER, 2 LAZY, 3 DOMINANT; by the first two inputs never disagree
+unfoldable pub movesOf : (W S rule : ℕ) → Tree → Moves
+movesOf W S zero t = moves (at 0) 0
+movesOf W S (suc zero) t = moves (at (storeOffset W S)) (storeOffset W S)
+movesOf W S (suc (suc zero)) t = moves Undefined (storeOffset W S)
+movesOf W S (suc (suc (suc r))) t = moves Undefined (dominant W S t)

@@ -1,0 +1,63 @@
+// DOMINANT's offset: how often each offset is met among the loads and the store, and which is met most often.
+use crate::rule::V;
+use graph::Header;
+use rules::nodes::Node;
+use rules::units::ByteOffset;
+ghost use mathlib.Core.Path.{_≡_};
+ghost use mathlib.Core.List.{[], _∷_};
+ghost use Prim.Native.Nat.{_≤_, _<_};
+ghost use Rattle.rules.specs.Limits.{vectorBytes, nodesMost};
+ghost use Rattle.rules.specs.Trees.{bytes, nodeAt, treeOf};
+ghost use Rattle.rules.specs.Placing.{dominant};
+ghost use Rattle.theory.proofs.FormLaws.{Formed};
+ghost use Rattle.graph.specs.Headers.{graphIn};
+ghost use Rattle.placing.specs.Met.{metIn, Counted, Largest};
+
+const OFFSETS: usize = 16;
+
+// Each load is counted once, and the store, which stands at c, once.
+fn count_met(nodes: &[u64], count: u8, c: ByteOffset) -> [u8; 16]
+    requires { ⌜ count ≤ nodesMost ⌝ }
+    requires { ⌜ c .0 < vectorBytes ⌝ }
+    ensures { λ r. ⌜ Counted vectorBytes (metIn vectorBytes (nodeAt (now (nodes .entry))) (c .0 ∷ []) count) r ⌝ }
+{
+    let mut counts = [0u8; 16];
+    let store = c.0 as usize;
+    counts[store] = 1;
+    let mut k: u8 = 0;
+    while k < count {
+        let node = tables::node_at(nodes, k);
+        if let Node::Load(load) = node {
+            let at = (load.address.0 % V) as usize;
+            counts[at] = counts[at] + 1;
+        }
+        k = k + 1;
+    }
+    counts
+}
+
+// The offset with the largest count, the smallest on a tie.
+fn most_met(counts: &[u8; 16]) -> usize
+    ensures { λ r. ⌜ Largest (now (counts .entry)) vectorBytes r ⌝ }
+{
+    let mut most = 0;
+    let mut x = 1;
+    while x < OFFSETS {
+        if counts[most] < counts[x] {
+            most = x;
+        }
+        x = x + 1;
+    }
+    most
+}
+
+// The offset met most often among the loads and the store.
+pub(crate) fn dominant(head: Header, nodes: &[u64]) -> ByteOffset
+    requires { ⌜ Formed vectorBytes (graphIn head (now nodes)) ⌝ }
+    ensures { λ r. ⌜ r ≡ bytes (dominant vectorBytes (head .store .0) (treeOf (now (nodes .entry)) (head .count))) ⌝ }
+{
+    let c = ByteOffset(head.store.0 % V);
+    let counts = count_met(nodes, head.count, c);
+    let most = most_met(&counts);
+    ByteOffset(most as u64)
+}
