@@ -1,0 +1,2 @@
+// Code of a graph: figure 7's generators, the sections of a program, and translating.
+mod instructions;
