@@ -3,7 +3,7 @@ use Prim.Native.Nat.{ℕ, zero, suc, _+_, _*_, _≤_, _<_}
 use native.Mathlib.Nat.{add-zero, add-suc, suc-add}
 use native.Mathlib.Numerals.{towards-suc}
 use native.Mathlib.Omega.{arith}
-use mathlib.Core.Path.{_≡_, refl, _∙_}
+use mathlib.Core.Path.{_≡_, refl, ap, _∙_}
 use mathlib.Core.List.{List, [], _∷_, _++_}
 use lib.ListN.{length, set, length-append}
 use lib.Seq.{sets, length-sets}
@@ -26,7 +26,7 @@ pub stored-in-turn : (l : List ℕ) (n a b c d e f : ℕ)
     → set (set (set (set (set (set l n a) (n + 1) b) (n + 2) c) (n + 3) d) (n + 4) e) (n + 5) f ≡ sets l n (a ∷ b ∷ c ∷ d ∷ e ∷ f ∷ [])
 stored-in-turn l n a b c d e f = simp towards-suc
 
-pub length-written : (section : List ℕ) (row : ℕ) (is : List Instruction) → length (written section row is) ≡ length section
+length-written : (section : List ℕ) (row : ℕ) (is : List Instruction) → length (written section row is) ≡ length section
 unfolding written
 length-written section row is = length-sets section (instructionEntries * row) (entries is)
 
@@ -36,6 +36,10 @@ unfolding written
 written-append section row xs ys =
     let e : 6 * (row + length xs) ≡ 6 * row + length (entries xs) = omega (arith, length-entries xs) in
     rw (e, sets-append, entries-append)
+
+pub written-length : {before after : List ℕ} {row next : ℕ} {is : List Instruction} → Written before after row next is
+    → length after ≡ length before
+written-length {before} {after} {row} {next} {is} w = ap length (w .holds) ∙ length-written before row is
 
 -- one list after the other
 pub written-then : {before middle after : List ℕ} {row between next : ℕ} {xs ys : List Instruction}

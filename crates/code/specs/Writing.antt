@@ -4,7 +4,7 @@ use mathlib.Core.Path.{_≡_}
 use mathlib.Core.List.{List}
 use lib.ListN.{length, getD}
 use lib.Seq.{sets}
-use Rattle.rules.specs.Limits.{vectorBytes, windows, addressMost, operations, sectionMost, instructionEntries}
+use Rattle.rules.specs.Limits.{vectorBytes, windows, addressMost, operations, nodesMost, sectionMost, instructionEntries}
 use Rattle.rules.specs.Trees.{Tree, load, splat, op, shift, nodeAt, treeAt}
 use Rattle.rules.specs.Code.{G}
 use Rattle.rules.specs.Tables.{entries}
@@ -40,6 +40,7 @@ Ranged (shift f g t) = (f < vectorBytes) × (g < vectorBytes) × Ranged t
 pub record Ready (nodes left : List ℕ) (k blocks row : ℕ) (section : List ℕ) : Type 0 where
   pub linked : Linked (nodeAt nodes) (λ (j : ℕ). getD left j 0) (k + 1)
   pub ranged : Ranged (treeAt (nodeAt nodes) k)
+  pub known : k < nodesMost
   pub above : k ≤ blocks
   pub below : blocks + k ≤ blocksMost
   pub fits : row + G (treeAt (nodeAt nodes) k) ≤ sectionMost

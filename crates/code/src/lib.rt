@@ -1,2 +1,3 @@
 // Code of a graph: figure 7's generators, the sections of a program, and translating.
+mod expressions;
 mod instructions;
