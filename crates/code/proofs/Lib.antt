@@ -1,2 +1,4 @@
 pub mod WritingLaws
+pub mod InputLaws
 pub mod ExpressionLaws
+pub mod SizeLaws

@@ -1,3 +1,4 @@
 // Code of a graph: figure 7's generators, the sections of a program, and translating.
 mod expressions;
 mod instructions;
+mod size;

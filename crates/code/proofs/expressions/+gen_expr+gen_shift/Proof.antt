@@ -3,7 +3,7 @@
 use mathlib.Core.Path.{sym, _∙_}
 use native.Mathlib.Omega.{arith}
 use borrow.Author.Needs.{needs}
-use Rattle.code.proofs.ExpressionLaws.{row-free, load-ranged, load-coded, splat-coded, left-falls, left-ready, right-ready, op-room, op-coded, some-child, this-ready, beside-room, other-ready, pair-room, shift-coded}
+use Rattle.code.proofs.ExpressionLaws.{row-free, load-ranged, load-coded, splat-coded, op-falls, left-ready, right-ready, op-room, op-coded, shift-falls, this-ready, beside-room, other-ready, pair-room, shift-coded}
 use Prim.Native.Nat.{ℕ, _+_, _*_, _<_}
 use borrow.Fn.Kinds.{In}
 use borrow.Fn.PlainCycle.{Measures, is, falls, and}
@@ -111,7 +111,7 @@ gen-expr-gen-expr-requires t c κs =
     let s = n .before .before .before .before .before in
     let r = s .pre .1 in
     let is = sym (n .before .before .node-at .ensures) ∙ n .node3 .given .1 in
-    (omega (arith, left-falls r _ is), left-ready r _ is)
+    (omega (arith, op-falls r _ is), left-ready r _ is)
 
 -- src/expressions.rt:55:25
 gen-expr-sub-right : (t : ℕ) → gen-expr-lts.Need-sub-right (gen-expr-calls t) (gen-expr-at t) gen-expr.Post
@@ -121,7 +121,7 @@ gen-expr-sub-right t c =
     let s = n .before .before .before .before .before in
     let r = s .pre .1 in
     let is = sym (n .before .before .node-at .ensures) ∙ n .node3 .given .1 in
-    omega (arith, left-falls r _ is)
+    omega (arith, op-falls r _ is)
 
 -- src/expressions.rt:56:17
 gen-expr-gen-expr-requires-2 : (t : ℕ) → gen-expr-lts.Need-gen-expr-requires-2 (gen-expr-calls t) (gen-expr-at t) gen-expr.Post
@@ -131,7 +131,7 @@ gen-expr-gen-expr-requires-2 t c κs =
     let s = n .before .before .before .before .before in
     let r = s .pre .1 in
     let is = sym (n .before .before .node-at .ensures) ∙ n .node3 .given .1 in
-    (omega (arith, left-falls r _ is), right-ready r _ is (f .gen-expr .ensures))
+    (omega (arith, op-falls r _ is), right-ready r _ is (f .gen-expr .ensures))
 
 -- src/expressions.rt:57:23
 gen-expr-sub-one : (t : ℕ) → gen-expr-lts.Need-sub-one (gen-expr-calls t) (gen-expr-at t) gen-expr.Post
@@ -239,14 +239,14 @@ gen-expr-returns-4 t c =
 gen-shift-sub-child : (t : ℕ) → gen-shift-lts.Need-sub-child (gen-shift-calls t) (gen-shift-at t) gen-shift.Post
 gen-shift-sub-child t c =
     let p = c .before .before .pre .1 in
-    let h = some-child (p .1) _ (p .0) in omega arith
+    let h = shift-falls (p .1) _ (p .0) in omega arith
 
 -- src/expressions.rt:79:9
 gen-shift-gen-expr-requires : (t : ℕ) → gen-shift-lts.Need-gen-expr-requires (gen-shift-calls t) (gen-shift-at t) gen-shift.Post
 gen-shift-gen-expr-requires t c κs =
     let s = c .before .before .before in
     let p = s .pre .1 in
-    (omega (arith, some-child (p .1) _ (p .0)), this-ready (p .1) _ (p .0))
+    (omega (arith, shift-falls (p .1) _ (p .0)), this-ready (p .1) _ (p .0))
 
 -- src/expressions.rt:80:9
 gen-shift-beside-requires : (t : ℕ) → gen-shift-lts.Need-beside-requires (gen-shift-calls t) (gen-shift-at t) gen-shift.Post
@@ -263,7 +263,7 @@ gen-shift-gen-expr-requires-2 t c κs =
     let f = b .before .before .before in
     let s = f .before .before .before .before in
     let p = s .pre .1 in
-    (omega (arith, some-child (p .1) _ (p .0)), other-ready (p .1) _ (p .0) (f .gen-expr .ensures) _ (b .beside .ensures))
+    (omega (arith, shift-falls (p .1) _ (p .0)), other-ready (p .1) _ (p .0) (f .gen-expr .ensures) _ (b .beside .ensures))
 
 -- src/expressions.rt:82:16
 gen-shift-sub-this : (t : ℕ) → gen-shift-lts.Need-sub-this (gen-shift-calls t) (gen-shift-at t) gen-shift.Post
