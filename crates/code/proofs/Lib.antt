@@ -2,3 +2,5 @@ pub mod WritingLaws
 pub mod InputLaws
 pub mod ExpressionLaws
 pub mod SizeLaws
+pub mod CountLaws
+pub mod SectionLaws

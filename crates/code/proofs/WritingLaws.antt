@@ -3,7 +3,7 @@ use Prim.Native.Nat.{ℕ, zero, suc, _+_, _*_, _≤_, _<_}
 use native.Mathlib.Nat.{add-zero, add-suc, suc-add}
 use native.Mathlib.Numerals.{towards-suc}
 use native.Mathlib.Omega.{arith}
-use mathlib.Core.Path.{_≡_, refl, ap, _∙_}
+use mathlib.Core.Path.{_≡_, refl, sym, ap, _∙_}
 use mathlib.Core.List.{List, [], _∷_, _++_}
 use lib.ListN.{length, set, length-append}
 use lib.Seq.{sets, length-sets}
@@ -40,6 +40,10 @@ written-append section row xs ys =
 pub written-length : {before after : List ℕ} {row next : ℕ} {is : List Instruction} → Written before after row next is
     → length after ≡ length before
 written-length {before} {after} {row} {next} {is} w = ap length (w .holds) ∙ length-written before row is
+
+pub written-none : (section : List ℕ) (row : ℕ) → Written section section row row []
+unfolding written
+written-none section row = record { rows = sym (add-zero row); holds = refl }
 
 -- one list after the other
 pub written-then : {before middle after : List ℕ} {row between next : ℕ} {xs ys : List Instruction}

@@ -49,3 +49,11 @@ pub record Ready (nodes left : List ℕ) (k blocks row : ℕ) (section : List �
   pub below : blocks + k ≤ blocksMost
   pub fits : row + G (treeAt (nodeAt nodes) k) ≤ sectionMost
   pub room : Roomy section
+
+-- what a section stands on: the code of the root from the first row on, four rows more, and an address to store at
+pub record Root (nodes left : List ℕ) (root S : ℕ) : Type 0 where
+  pub linked : Linked (nodeAt nodes) (λ (j : ℕ). getD left j 0) (root + 1)
+  pub ranged : Ranged (treeAt (nodeAt nodes) root)
+  pub known : root < nodesMost
+  pub short : G (treeAt (nodeAt nodes) root) ≤ longMost
+  pub address : S ≤ addressMost

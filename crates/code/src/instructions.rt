@@ -151,7 +151,7 @@ pub(crate) fn put_pair(section: &mut [u32], row: usize, by: ShiftBy, this: usize
 
 pub(crate) fn put_splice(section: &mut [u32], row: usize, first: usize, second: usize, amount: ByteOffset) -> usize
     requires { ⌜ (row < sectionMost) × Roomy (now section) ⌝ }
-    requires { ⌜ (first < sectionMost) × (second < sectionMost) × (amount .0 ≤ vectorBytes) ⌝ }
+    requires { ⌜ (first < sectionMost) × (second < sectionMost) × (amount .0 < lowValues) ⌝ }
     ensures { λ r. ⌜ Written (now (section .entry)) (now (section .exit)) row r (Splice row first second (amount .0) ∷ []) ⌝ }
 {
     let i = Instruction {

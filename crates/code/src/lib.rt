@@ -1,4 +1,6 @@
 // Code of a graph: figure 7's generators, the sections of a program, and translating.
+mod counts;
 mod expressions;
 mod instructions;
+mod sections;
 mod size;
