@@ -1,26 +1,23 @@
 -- The other side of "exactly when": a graph in which nothing is wrong is not refused. With Checked.antt, each check is done exactly
 -- where its fact holds; so a system that refuses everything is ruled out.
-use mathlib.Core.Path.{_≡_, refl, sym, ap, _∙_}
+use mathlib.Core.Path.{_≡_, refl}
 use mathlib.Core.Bool.{Bool, true, false, not, _&&_, _||_, false≢true}
-use mathlib.Core.List.{List, [], _∷_, _++_, append-nil}
-use Prim.Native.Nat.{ℕ, zero, suc, _+_, _*_, _/_, _%_, _≤_, _<_}
+use mathlib.Core.List.{List, [], _∷_, append-nil}
+use Prim.Native.Nat.{ℕ, zero, suc, _+_, _*_, _%_, _≤_, _<_}
 use native.Mathlib.Omega.{arith}
 use borrow.Author.Tests.{eq-eqb, ne-eqb, eqb-true, ltb-true, lt-leb, le-ltb}
-use lib.Dec.{ltb, leb, eqb}
+use lib.Dec.{ltb, eqb}
 use lib.ListN.{length}
 use Rattle.rules.specs.Limits.{workWindow, bareMost, rulesMost, longMost}
-use Rattle.rules.specs.Answers.{Answer, at, done, refuseIf, first, each, orElse, ALIGN, BOUNDS}
-use Rattle.rules.specs.Frames.{loadKind, splatKind, opKind, shiftKind}
+use Rattle.rules.specs.Answers.{Answer, at, done, first, each}
+use Rattle.rules.specs.Frames.{loadKind, shiftKind}
 use Rattle.rules.specs.Ranges.{rowOk, takes}
-use Rattle.rules.specs.Trees.{Tree, load, splat, op, shift, bytes, cell, nodeOf, nodeAt, push, waiting, top, treeAt, treeOf}
-use Rattle.rules.specs.PlainLoop.{window}
-use Rattle.rules.specs.Offsets.{agree, offset, isAt, ruleKept, rootKept}
+use Rattle.rules.specs.Trees.{Tree, load, splat, op, shift, cell, nodeOf, nodeAt, push, waiting, top, treeAt, treeOf}
+use Rattle.rules.specs.Offsets.{offset, ruleKept, rootKept}
 use Rattle.rules.specs.Code.{G}
 use Rattle.rules.specs.Tables.{Graph, graphOf}
-use Rattle.rules.specs.Checks.{storeLine, line, isLoad, loadWindow, loadAddress, misaligned, lengthOf, beyond, carries, windowOk, headShort, nodesShort, sectionShort, roomCheck, ruleCheck, bareRow, bareCheck, windowCheck, alignRow, alignCheck, boundsRow, boundsCheck, carryRow, carryCheck, offsetRow, offsetCheck, longCheck, formCheck}
-use Rattle.rules.specs.Calls.{checking, graphTree, placeAnswer, translateAnswer, bareChecks, planAnswer, plainAnswer}
-use Rattle.rules.specs.declared.nodes.Offset.{Offset}
-use Rattle.rules.specs.declared.nodes.Offset.the-variants.{At, Undefined}
+use Rattle.rules.specs.Checks.{isLoad, loadWindow, loadAddress, lengthOf, windowOk, headShort, nodesShort, sectionShort, bareRow, bareCheck, windowCheck, alignRow, alignCheck, boundsRow, boundsCheck, carryRow, carryCheck, offsetRow, offsetCheck, longCheck}
+use Rattle.rules.specs.Calls.{graphTree, translateAnswer, bareChecks}
 use Rattle.theory.proofs.Lists.{split}
 use Rattle.theory.proofs.Passing.{Loop, LoadPasses, Passes}
 use Rattle.theory.proofs.RowLaws.{length-waiting}

@@ -1,6 +1,5 @@
 -- Each case of a call's answer has a number, place and steps of its own: what specs/Answers.antt gives it tells the case. So two
 -- answers that a contract allows for one input are one, as `decided` (Demands.antt) says of what the paper calls the answer.
-use Prim.Native.Nat.{ℕ}
 use mathlib.Core.Path.{_≡_, refl, sym, ap, _∙_}
 use mathlib.Core.Bool.{cond}
 use lib.Dec.{eqb}

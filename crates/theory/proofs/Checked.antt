@@ -1,27 +1,26 @@
 -- What an answer of done says. Each check that is done leaves a fact about the graph's tree and the windows; together they are
 -- the premises of the argument (Passing.antt).
-use mathlib.Core.Path.{_≡_, refl, sym, ap, _∙_}
+use mathlib.Core.Path.{_≡_, refl, ap}
 use mathlib.Core.Bool.{Bool, true, false, not, _&&_, _||_, false≢true}
-use mathlib.Core.List.{List, [], _∷_, _++_, append-nil}
+use mathlib.Core.List.{List, [], _∷_, append-nil}
 use Prim.Native.Nat.{ℕ, zero, suc, _+_, _*_, _/_, _%_, _≤_, _<_}
 use native.Mathlib.Omega.{arith}
-use borrow.Author.Tests.{ltb-true, ltb-false, leb-true, leb-false, eqb-true, eqb-false, eq-eqb, lt-ltb, le-ltb, not-true, not-false}
+use borrow.Author.Tests.{ltb-true, ltb-false, leb-true, leb-false, eqb-true, eqb-false, eq-eqb, lt-ltb, not-true, not-false}
 use lib.Dec.{ltb, leb, eqb}
 use lib.ListN.{length, getD}
 use Rattle.rules.specs.Limits.{windows, operations, bareMost, longMost, elementsMost, widthMost, addressMost, windowMost}
-use Rattle.rules.specs.Answers.{Answer, DONE, at, refuseIf, first, each, ALIGN, BOUNDS, CARRY, OFFSET}
+use Rattle.rules.specs.Answers.{Answer, DONE, at, refuseIf, each, ALIGN, BOUNDS, CARRY, OFFSET}
 use Rattle.rules.specs.Units.{isWidth}
 use Rattle.rules.specs.Elements.{modulus}
 use Rattle.rules.specs.Frames.{loadKind, splatKind, opKind, shiftKind}
 use Rattle.rules.specs.Ranges.{headOk, loadOk, splatOk, opOk, shiftOk, rowOk}
-use Rattle.rules.specs.Trees.{Tree, load, splat, op, shift, bytes, cell, nodeAt, treeAt, treeOf, count, waiting}
+use Rattle.rules.specs.Trees.{Tree, load, splat, op, shift, bytes, cell, nodeAt, treeAt, treeOf, count}
 use Rattle.rules.specs.PlainLoop.{window}
-use Rattle.rules.specs.Offsets.{agree, offset, isAt, ruleKept, rootKept}
+use Rattle.rules.specs.Offsets.{offset, isAt, ruleKept, rootKept}
 use Rattle.rules.specs.Code.{G}
 use Rattle.rules.specs.Vectors.{blockZero}
 use Rattle.rules.specs.Tables.{Graph}
 use Rattle.rules.specs.Checks.{storeLine, line, isLoad, loadWindow, loadAddress, misaligned, lengthOf, beyond, carries, windowOk, bareRow, bareCheck, windowCheck, alignRow, alignCheck, boundsRow, boundsCheck, carryRow, carryCheck, offsetRow, offsetCheck, longCheck}
-use Rattle.rules.specs.declared.units.ByteOffset.{ByteOffset}
 use Rattle.rules.specs.declared.nodes.Offset.{Offset}
 use Rattle.rules.specs.declared.nodes.Offset.the-variants.{At, Undefined}
 use Rattle.theory.proofs.Lists.{and-left, and-right}

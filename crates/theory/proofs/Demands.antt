@@ -13,16 +13,16 @@
 use mathlib.Core.Path.{_≡_, refl, sym, ap, _∙_}
 use mathlib.Core.Logic.{_≢_}
 use mathlib.Core.Bool.{Bool, true, false, _||_}
-use mathlib.Core.List.{List, [], _∷_, _++_, append-nil}
-use Prim.Native.Nat.{ℕ, zero, suc, _+_, _*_, _/_, _%_, _≤_, _<_}
+use mathlib.Core.List.{List, [], _∷_, append-nil}
+use Prim.Native.Nat.{ℕ, zero, suc, _≤_, _<_}
 use native.Mathlib.Nat.{sub-zero}
 use native.Mathlib.Omega.{arith}
 use lib.ListN.{length, getD, take, replicate}
 use Rattle.rules.specs.Answers.{Answer, DONE, ROOM, OUT, FAULT, at, after, done, first}
-use Rattle.rules.specs.Trees.{Tree, treeOf, rows, count}
+use Rattle.rules.specs.Trees.{Tree, rows}
 use Rattle.rules.specs.PlainLoop.{window, plain}
 use Rattle.rules.specs.Placing.{place}
-use Rattle.rules.specs.Machine.{Program, Timed, Standing, trace, runs, start}
+use Rattle.rules.specs.Machine.{Timed, Standing, trace, runs, start}
 use Rattle.rules.specs.Code.{G, programOf, stepsOf}
 use Rattle.rules.specs.Tables.{Graph, graphOf, withTree, headOf, noProgram, programIn, padded, tableLeft, headLeft}
 use Rattle.rules.specs.Checks.{headShort, nodesShort, sectionShort, windowOk, formCheck, windowCheck, alignCheck, boundsCheck, offsetCheck, longCheck}
@@ -200,7 +200,7 @@ module _ (W : ℕ) (v : VectorWidth W) (D n S : ℕ) (work table : List ℕ) (t 
 abbrev pub HoldBytes : (work table : List ℕ) → Type 0
 HoldBytes work table = (w i : ℕ) → getD (window w work table) i 0 < 256
 
-sections-roomy : (rest a b c : Bool) → (rest || a || b || c) ≡ false → (a ≡ false) × (b ≡ false) × (c ≡ false)
+pub sections-roomy : (rest a b c : Bool) → (rest || a || b || c) ≡ false → (a ≡ false) × (b ≡ false) × (c ≡ false)
 sections-roomy rest a b c e =
     let p = neither (rest || a || b) c e in
     let q = neither (rest || a) b (p .0) in
@@ -256,7 +256,7 @@ module _ (W : ℕ) (v : VectorWidth W) (head nodes work table prologue body epil
 -- ---- Demand 2
 
 -- the tree of a placed graph is the placed tree
-placed-tree : (W rule : ℕ) (g : Graph) → graphTree (placedGraph W rule g) ≡ place W (g .S) rule (graphTree g)
+pub placed-tree : (W rule : ℕ) (g : Graph) → graphTree (placedGraph W rule g) ≡ place W (g .S) rule (graphTree g)
 placed-tree W rule g =
     let t : Tree = place W (g .S) rule (graphTree g) in
     rw append-nil at (rows-read-back t [])

@@ -1,25 +1,23 @@
 -- A translated program, written into lent tables and handed to the machine: it is read back as itself, starts without a refusal,
 -- is done in exactly the formula's steps where the budget has them, with the plain loop's memory, and else is OUT.
-use mathlib.Core.Path.{_≡_, refl, sym, ap, _∙_}
-use mathlib.Core.Bool.{Bool, true, false, not, _||_}
-use mathlib.Core.List.{List, [], _∷_, _++_}
-use Prim.Native.Nat.{ℕ, zero, suc, _+_, _-_, _*_, _/_, _%_, _≤_, _<_}
-use native.Mathlib.Nat.{zero-add, mod-lt, mul-le-mul-right, mul-le-mul, mul-le-mul-left, div-add-mod, lt-of-mul-lt-mul-left}
+use mathlib.Core.Path.{_≡_, refl, _∙_}
+use mathlib.Core.Bool.{true, false}
+use mathlib.Core.List.{List}
+use Prim.Native.Nat.{ℕ, zero, suc, _+_, _*_, _/_, _%_, _≤_, _<_}
+use native.Mathlib.Nat.{zero-add, mod-lt, mul-le-mul, div-add-mod, lt-of-mul-lt-mul-left}
 use native.Mathlib.Omega.{arith}
 use borrow.Author.Tests.{le-ltb, ltb-false}
-use lib.Dec.{ltb}
-use lib.ListN.{length, take, length-append, length-replicate, replicate}
+use lib.ListN.{length, take, length-replicate, replicate}
 use Rattle.rules.specs.Limits.{registers, sectionMost, longMost, elementsMost, fullMost, instructionEntries}
-use Rattle.rules.specs.Answers.{Answer, DONE, OUT, at, after, first, refuseIf, ROOM, orElse, done}
-use Rattle.rules.specs.Units.{isWidth}
+use Rattle.rules.specs.Answers.{DONE, OUT, at, after, first, done}
 use Rattle.rules.specs.Trees.{Tree}
 use Rattle.rules.specs.PlainLoop.{plain}
 use Rattle.rules.specs.Offsets.{rootKept}
 use Rattle.rules.specs.Machine.{Program, Timed, trace, runs, start, standing, blank}
-use Rattle.rules.specs.Code.{G, fullVectors, restElements, onlySection, prologueSection, bodySection, epilogueSection, bodyOf, epilogueOf, sections, programOf, epilogueSteps, stepsOf}
+use Rattle.rules.specs.Code.{G, fullVectors, restElements, sections, programOf, epilogueSteps, stepsOf}
 use Rattle.rules.specs.Tables.{entries, programHead, programIn, padded}
-use Rattle.rules.specs.Checks.{sectionShort, sectionLong, windowCheck, startFault, roomCheck}
-use Rattle.rules.specs.Calls.{WithWork, ended, started, startAnswer, running}
+use Rattle.rules.specs.Checks.{sectionShort, sectionLong, windowCheck}
+use Rattle.rules.specs.Calls.{WithWork, ended, startAnswer, running}
 use Rattle.rules.specs.declared.program.Instruction.{Instruction}
 use Rattle.theory.proofs.Passing.{Loop, Passes}
 use Rattle.theory.proofs.Pass.{plan-bytes}
@@ -29,7 +27,6 @@ use Rattle.theory.proofs.Sound.{blank-whole, sound-done, sound-out}
 use Rattle.theory.proofs.Sections.{program-plain}
 use Rattle.theory.proofs.Translated.{length-only, length-prologue, length-body, length-epilogue, length-program, program-sound}
 use Rattle.theory.proofs.RowLaws.{length-entries, length-padded, padded-entries-read-back}
-use Rattle.theory.proofs.FormLaws.{first-done}
 use Rattle.theory.proofs.Checked.{VectorWidth, HeadPasses, width-most}
 
 -- ---- a program's sections fit their tables

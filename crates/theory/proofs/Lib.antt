@@ -24,3 +24,4 @@ pub mod Handed
 pub mod Unrefused
 pub mod AnswerLaws
 pub mod Demands
+pub mod Stepwise

@@ -1,9 +1,9 @@
 -- Bytes of numbers and what bounds them, and the arithmetic of positions: a number is q * D + d in one way.
 use mathlib.Core.Path.{_≡_, refl, sym, ap, _∙_}
 use mathlib.Core.Bool.{Bool, true, false, cond}
-use mathlib.Core.List.{List, [], _∷_, _++_}
-use Prim.Native.Nat.{ℕ, zero, suc, _+_, _-_, _*_, _/_, _%_, _^_, _≤_, _<_, _∣_}
-use native.Mathlib.Nat.{mul-le-mul-right, mul-le-mul-left, mod-lt, div-add-mod', div-add-mod, mod-eq-of-lt, add-mul-mod-self-right, mul-add-mod-self-right, mul-add-div-right, div-eq-of-lt, pow-suc, pow-zero, div-lt-iff-lt-mul, mul-lt-mul-of-pos-left, add-zero}
+use mathlib.Core.List.{List, [], _∷_}
+use Prim.Native.Nat.{ℕ, zero, suc, _+_, _-_, _*_, _/_, _%_, _^_, _≤_, _<_}
+use native.Mathlib.Nat.{mul-le-mul-right, mod-lt, div-add-mod', mod-eq-of-lt, mul-add-mod-self-right, mul-add-div-right, div-eq-of-lt, pow-suc, pow-zero, div-lt-iff-lt-mul, add-zero}
 use native.Mathlib.Omega.{arith}
 use lib.Pow.{pow-add}
 use lib.ListN.{length, getD}

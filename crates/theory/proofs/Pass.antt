@@ -3,8 +3,8 @@
 use mathlib.Core.Path.{_≡_, refl, sym, ap, _∙_}
 use mathlib.Core.Bool.{true}
 use mathlib.Core.List.{List}
-use Prim.Native.Nat.{ℕ, zero, suc, _+_, _-_, _*_, _/_, _%_, _≤_, _<_, _∣_, min}
-use native.Mathlib.Nat.{add-sub-cancel-left, mul-le-mul-right, mul-le-mul-left, mod-lt, div-add-mod', div-add-mod, div-lt-iff-lt-mul, lt-of-mul-lt-mul-left, dvd-sub, dvd-mul-left, dvd-mul-right-of-dvd, dvd-of-mod-eq-zero, mod-eq-zero-of-dvd, mod-mod-of-dvd, div-mul-cancel}
+use Prim.Native.Nat.{ℕ, suc, _+_, _-_, _*_, _/_, _%_, _≤_, _<_, _∣_, min}
+use native.Mathlib.Nat.{mul-le-mul-right, mul-le-mul-left, mod-lt, div-add-mod', div-add-mod, div-lt-iff-lt-mul, lt-of-mul-lt-mul-left, dvd-sub, dvd-mul-left, dvd-mul-right-of-dvd, dvd-of-mod-eq-zero, mod-eq-zero-of-dvd, mod-mod-of-dvd, div-mul-cancel}
 use native.Mathlib.Omega.{arith}
 use lib.ListN.{length, getD}
 use lib.Seq.{paste, length-paste}
@@ -16,7 +16,7 @@ use Rattle.rules.specs.declared.nodes.Offset.the-variants.{At}
 use Rattle.theory.proofs.Passing.{Loop, Passes}
 use Rattle.theory.proofs.Lists.{split, paste-before, paste-in, paste-after, splice-left, splice-right, length-splice}
 use Rattle.theory.proofs.Numbers.{lane-low}
-use Rattle.theory.proofs.Stream.{vec, kept-reads, Holds, planned, vec-holds, length-vec, length-loaded, loaded-byte, aligned, stands-right}
+use Rattle.theory.proofs.Stream.{vec, kept-reads, Holds, planned, vec-holds, loaded-byte, aligned, stands-right}
 use Rattle.theory.proofs.Plan.{Upto}
 
 -- a block to store in pass j: new where the plan has bytes, old elsewhere

@@ -1,17 +1,17 @@
 -- The sections of a translated program, run in their passes, leave the plain loop's memory: the code lemma gives what a section
 -- stores, the pass lemma what that does to work, and the trace is the passes in their order.
-use mathlib.Core.Path.{_≡_, refl, sym, ap, ap₂, _∙_}
+use mathlib.Core.Path.{_≡_, refl, ap, ap₂, _∙_}
 use mathlib.Core.Bool.{true}
-use mathlib.Core.List.{List, [], _∷_, _++_, foldl-append}
-use Prim.Native.Nat.{ℕ, zero, suc, _+_, _-_, _*_, _/_, _%_, _≤_, _<_, min}
-use native.Mathlib.Nat.{mod-lt, mul-le-mul-right}
+use mathlib.Core.List.{List, [], _++_, foldl-append}
+use Prim.Native.Nat.{ℕ, zero, suc, _+_, _-_, _*_, _%_, _≤_, _<_, min}
+use native.Mathlib.Nat.{mod-lt}
 use native.Mathlib.Omega.{arith}
 use lib.ListN.{length}
 use Rattle.rules.specs.Trees.{Tree}
 use Rattle.rules.specs.PlainLoop.{plain}
 use Rattle.rules.specs.Offsets.{rootKept}
 use Rattle.rules.specs.Vectors.{vsplice, blockZero, held, loaded, stored}
-use Rattle.rules.specs.Machine.{Load, Splice, Store, State, reg, write, effect, effectAs, Program, inPass, passes, trace}
+use Rattle.rules.specs.Machine.{Load, Splice, Store, State, reg, write, effect, effectAs, inPass, passes, trace}
 use Rattle.rules.specs.Code.{G, code, fullVectors, restElements, onlySection, prologueSection, bodySection, epilogueSection, bodyOf, epilogueOf, sections, programOf}
 use Rattle.theory.proofs.Passing.{Loop, Passes}
 use Rattle.theory.proofs.Stream.{vec, length-loaded, length-vec}

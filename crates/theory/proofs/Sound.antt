@@ -1,22 +1,22 @@
 -- Runs of sound instructions. Whether an instruction is a fault depends on its fields, D, the pass and the length of work, and a
 -- sound one keeps that length and the registers' widths: so a trace of sound instructions never faults, is done in as many
 -- steps as it has instructions, and is OUT exactly when the budget is less.
-use mathlib.Core.Path.{_≡_, refl, sym, ap, _∙_}
-use mathlib.Core.Bool.{Bool, true, false, cond, _&&_}
-use mathlib.Core.List.{List, [], _∷_, _++_, foldl}
+use mathlib.Core.Path.{_≡_, refl, sym, _∙_}
+use mathlib.Core.Bool.{Bool, true, _&&_}
+use mathlib.Core.List.{List, [], _∷_}
 use Prim.Native.Nat.{ℕ, zero, suc, _+_, _-_, _*_, _/_, _≤_, _<_}
 use native.Mathlib.Nat.{add-zero}
 use native.Mathlib.Omega.{arith}
 use borrow.Author.Tests.{lt-ltb, le-ltb, ltb-true, leb-true}
 use lib.Dec.{ltb, leb}
-use lib.ListN.{length, take, getD, set, length-set, replicate, length-replicate, getD-replicate}
+use lib.ListN.{length, take, length-set, replicate, length-replicate, getD-replicate}
 use lib.Seq.{getD-set-same, getD-set-other, length-paste}
-use Rattle.rules.specs.Limits.{registers, windows, operations}
+use Rattle.rules.specs.Limits.{registers}
 use Rattle.rules.specs.Answers.{DONE, OUT}
 use Rattle.rules.specs.Elements.{toBytes}
 use Rattle.rules.specs.PlainLoop.{window}
-use Rattle.rules.specs.Vectors.{vsplat, vop, blockZero, blockOf, inside, loaded, stored}
-use Rattle.rules.specs.Machine.{State, reg, write, fieldsAs, reachesAs, soundAs, sound, effectAs, effect, Program, Timed, inPass, passes, trace, standing, step, runs, blank, splatValue}
+use Rattle.rules.specs.Vectors.{vsplat, vop, blockZero, blockOf, inside, stored}
+use Rattle.rules.specs.Machine.{State, reg, write, fieldsAs, reachesAs, soundAs, sound, effectAs, effect, Timed, inPass, passes, trace, standing, step, runs, blank, splatValue}
 use Rattle.rules.specs.declared.program.Instruction.{Instruction}
 use Rattle.theory.proofs.Lists.{split, and-left, and-right, Every, none, more, every-append, length-lanes, length-pair, length-splice}
 use Rattle.theory.proofs.Numbers.{length-toBytes}

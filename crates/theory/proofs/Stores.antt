@@ -1,16 +1,15 @@
 -- Where a translated program stores: its trace stores into the blocks that hold a byte of the plan, in their order and into each
 -- exactly once, and into no other.
-use mathlib.Core.Path.{_≡_, refl, sym, ap, ap₂, _∙_}
+use mathlib.Core.Path.{_≡_, refl, sym, ap, _∙_}
 use mathlib.Core.Bool.{Bool, true, false, cond}
-use mathlib.Core.List.{List, [], _∷_, _++_, append-assoc}
+use mathlib.Core.List.{List, [], _∷_, _++_}
 use Prim.Native.Nat.{ℕ, zero, suc, _+_, _-_, _*_, _/_, _%_, _≤_, _<_}
 use native.Mathlib.Nat.{add-zero, mul-le-mul-left, mul-le-mul-right, mod-lt, div-add-mod, mul-add-div, div-eq-of-lt, lt-of-mul-lt-mul-left}
 use native.Mathlib.Omega.{arith}
 use lib.Dec.{ltb, eqb}
-use lib.ListN.{length}
 use Rattle.rules.specs.Trees.{Tree, load, splat, op, shift}
 use Rattle.rules.specs.Vectors.{blockZero, held, blockOf}
-use Rattle.rules.specs.Machine.{storeKind, Pair, Program, Timed, inPass, passes, trace}
+use Rattle.rules.specs.Machine.{storeKind, Pair, Timed, inPass, passes, trace}
 use Rattle.rules.specs.Code.{G, beside, pairUp, code, fullVectors, restElements, onlySection, prologueSection, bodySection, epilogueSection, bodyOf, epilogueOf, sections, programOf}
 use Rattle.rules.specs.declared.program.Instruction.{Instruction}
 use Rattle.theory.proofs.Passing.{Loop, Passes}

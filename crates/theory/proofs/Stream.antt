@@ -4,8 +4,8 @@
 -- window and blocks that were stored already differ in bytes that don't matter.
 use mathlib.Core.Path.{_≡_, refl, sym, ap, ap₂, _∙_, subst}
 use mathlib.Core.Bool.{Bool, true, false, cond, _&&_}
-use mathlib.Core.List.{List, [], _∷_, _++_}
-use Prim.Native.Nat.{ℕ, zero, suc, _+_, _-_, _*_, _/_, _%_, _≤_, _<_, _∣_}
+use mathlib.Core.List.{List}
+use Prim.Native.Nat.{ℕ, zero, suc, _+_, _-_, _*_, _/_, _%_, _≤_, _<_}
 use native.Mathlib.Nat.{add-assoc, mul-le-mul-right, mul-le-mul-left, mod-lt, div-add-mod', div-add-mod, mul-add-mod-self-right, lt-of-mul-lt-mul-left, add-sub-cancel-left, mod-mod-of-dvd, dvd-mul-left, div-lt-iff-lt-mul}
 use native.Mathlib.Omega.{arith}
 use borrow.Author.Tests.{le-leb, leb-true, ltb-true, ltb-false, eqb-true}
@@ -18,10 +18,9 @@ use Rattle.rules.specs.PlainLoop.{window, value}
 use Rattle.rules.specs.Offsets.{agree, join, offset}
 use Rattle.rules.specs.Vectors.{lanes, vsplat, vop, vshiftpair, blockZero, inside, loaded}
 use Rattle.rules.specs.Code.{beside}
-use Rattle.rules.specs.declared.units.ByteOffset.{ByteOffset}
 use Rattle.rules.specs.declared.nodes.Offset.{Offset}
 use Rattle.rules.specs.declared.nodes.Offset.the-variants.{At, Undefined}
-use Rattle.theory.proofs.Passing.{Loop, LoadPasses, ShiftPasses, Passes}
+use Rattle.theory.proofs.Passing.{Loop, LoadPasses, Passes}
 use Rattle.theory.proofs.Lists.{split, length-part, part-ext, pair-left, pair-right, length-pair, length-lanes, getD-lanes}
 use Rattle.theory.proofs.Numbers.{length-toBytes, ofBytes-toBytes, toBytes-ofBytes, Bytes, ofBytes-lt, modulus-is, operate-lt, mod-at}
 

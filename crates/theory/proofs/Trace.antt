@@ -1,6 +1,6 @@
 -- Runs of any program on any budget: a run's outcome is that of the first instructions of its trace, as many as its steps; it
 -- stops exactly where the paper says; carried on under a larger budget it ends as one run.
-use mathlib.Core.Path.{_≡_, refl, sym, ap, _∙_}
+use mathlib.Core.Path.{_≡_, refl, sym, ap}
 use mathlib.Core.Bool.{Bool, true, false, cond}
 use mathlib.Core.List.{List, [], _∷_, _++_, foldl, foldl-append}
 use Prim.Native.Nat.{ℕ, zero, suc, _+_, _-_, _*_, _≤_, _<_}

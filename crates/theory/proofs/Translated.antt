@@ -1,25 +1,25 @@
 -- A translated program: its trace has exactly the formula's instructions, instruction k of a section writes register k, and every
 -- instruction is sound in its pass, whatever the windows hold.
 use mathlib.Core.Path.{_≡_, refl, sym, ap, _∙_}
-use mathlib.Core.Bool.{Bool, true, false, cond, _&&_}
+use mathlib.Core.Bool.{Bool, true, false, cond}
 use mathlib.Core.List.{List, [], _∷_, _++_, append-assoc}
-use Prim.Native.Nat.{ℕ, zero, suc, _+_, _-_, _*_, _/_, _%_, _^_, _≤_, _<_}
-use native.Mathlib.Nat.{zero-add, mul-le-mul-left, mul-le-mul-right, mod-lt}
+use Prim.Native.Nat.{ℕ, zero, suc, _+_, _-_, _*_, _/_, _%_, _≤_, _<_}
+use native.Mathlib.Nat.{zero-add, mul-le-mul-left, mod-lt}
 use native.Mathlib.Omega.{arith}
 use borrow.Author.Tests.{lt-ltb, le-leb, ltb-false}
-use lib.Dec.{ltb, leb}
+use lib.Dec.{ltb}
 use lib.ListN.{length, length-append}
 use Rattle.rules.specs.Limits.{registers, windows, operations, lowValues, longMost}
 use Rattle.rules.specs.Elements.{modulus}
 use Rattle.rules.specs.Trees.{Tree, load, splat, op, shift}
-use Rattle.rules.specs.Vectors.{blockZero, held, blockOf, inside}
-use Rattle.rules.specs.Machine.{Load, Splat, Op, Pair, Splice, Store, fieldsAs, reachesAs, sound, splatValue, Program, inPass, passes, trace}
+use Rattle.rules.specs.Vectors.{blockZero, held, inside}
+use Rattle.rules.specs.Machine.{Load, Splat, Op, Pair, Splice, Store, fieldsAs, reachesAs, sound, inPass, passes, trace}
 use Rattle.rules.specs.Code.{G, beside, pairUp, code, fullVectors, restElements, onlySection, prologueSection, bodySection, epilogueSection, bodyOf, epilogueOf, sections, programOf, epilogueSteps, stepsBy, stepsOf}
 use Rattle.rules.specs.declared.program.Instruction.{Instruction}
 use Rattle.theory.proofs.Lists.{Every, none, more, every-append}
 use Rattle.theory.proofs.Passing.{Loop, Passes}
 use Rattle.theory.proofs.Pass.{block-inside, plan-bytes}
-use Rattle.theory.proofs.Coded.{size-pos, block-moved, splat-value, length-code}
+use Rattle.theory.proofs.Coded.{block-moved, splat-value, length-code}
 use Rattle.theory.proofs.Trace.{length-trace}
 use Rattle.theory.proofs.Sound.{Sound, every-pass, every-passes}
 use Rattle.theory.proofs.Sections.{no-passes}

@@ -1,18 +1,18 @@
 -- After any of the four placing rules OFFSET and LONG are never given, and the placed graph passes the check of tables: the
 -- placed tree keeps the offset rules at every node, so each of its rows does.
-use mathlib.Core.Path.{_≡_, refl, sym, ap, _∙_}
+use mathlib.Core.Path.{_≡_, refl, sym, _∙_}
 use mathlib.Core.Bool.{true}
 use mathlib.Core.List.{List, [], _∷_, _++_, append-assoc, append-nil}
-use Prim.Native.Nat.{ℕ, zero, suc, _+_, _-_, _*_, _/_, _%_, _≤_, _<_}
+use Prim.Native.Nat.{ℕ, suc, _+_, _-_, _*_, _≤_, _<_}
 use native.Mathlib.Nat.{zero-add}
 use native.Mathlib.Omega.{arith}
 use borrow.Author.Tests.{eq-eqb, le-ltb}
 use lib.ListN.{length, length-append}
 use Rattle.rules.specs.Limits.{longMost}
 use Rattle.rules.specs.Answers.{done, first}
-use Rattle.rules.specs.Frames.{loadKind, splatKind, opKind, shiftKind}
-use Rattle.rules.specs.Trees.{Tree, load, splat, op, shift, bytes, nodeAt, waiting, top, treeAt, treeOf, rows, count}
-use Rattle.rules.specs.Offsets.{offset, isAt, ruleKept, rootKept}
+use Rattle.rules.specs.Frames.{opKind, shiftKind}
+use Rattle.rules.specs.Trees.{Tree, load, splat, op, shift, bytes, nodeAt, treeAt, treeOf, rows, count}
+use Rattle.rules.specs.Offsets.{offset, isAt, ruleKept}
 use Rattle.rules.specs.Placing.{place}
 use Rattle.rules.specs.Code.{G}
 use Rattle.rules.specs.Tables.{Graph}
