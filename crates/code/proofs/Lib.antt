@@ -4,3 +4,4 @@ pub mod ExpressionLaws
 pub mod SizeLaws
 pub mod CountLaws
 pub mod SectionLaws
+pub mod ProgramLaws

@@ -2,5 +2,6 @@
 mod counts;
 mod expressions;
 mod instructions;
+mod programs;
 mod sections;
 mod size;
