@@ -5,3 +5,4 @@ pub mod SizeLaws
 pub mod CountLaws
 pub mod SectionLaws
 pub mod ProgramLaws
+pub mod TranslateLaws

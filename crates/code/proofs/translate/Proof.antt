@@ -1,0 +1,119 @@
+use borrow.Author.Needs.{needs}
+use Rattle.code.proofs.translate.Statement.{statement}
+use Rattle.code.proofs.translate.Tie as tie
+use Rattle.code.proofs.translate.Reads as reads
+use Rattle.code.proofs.translate.Lts as lts
+use Rattle.code.proofs.clear.Reads as clear-reads
+use Rattle.code.proofs.judge.judge.Reads as judge-reads
+use Rattle.code.proofs.programs.emit.Reads as emit-reads
+use Rattle.graph.proofs.header_of.Reads as header-of-reads
+use Rattle.graph.proofs.left_inputs.Reads as left-inputs-reads
+
+-- src/lib.rt:57:9
+judge-requires : tie.Need-judge-requires
+judge-requires c κs = search needs
+
+-- src/lib.rt:60:21
+enum-told : tie.Need-enum-told
+enum-told c = search needs
+
+-- src/lib.rt:59:9
+same-length : tie.Need-same-length
+same-length c = search needs
+
+-- src/lib.rt:59:9
+same-length-2 : tie.Need-same-length-2
+same-length-2 c = search needs
+
+-- src/lib.rt:59:9
+same-length-3 : tie.Need-same-length-3
+same-length-3 c = search needs
+
+-- src/lib.rt:59:9
+returns : tie.Need-returns
+returns c = ?
+
+-- src/lib.rt:64:5
+clear-requires : tie.Need-clear-requires
+clear-requires c κs = search needs
+
+-- src/lib.rt:65:5
+clear-requires-2 : tie.Need-clear-requires-2
+clear-requires-2 c κs = search needs
+
+-- src/lib.rt:66:5
+clear-requires-3 : tie.Need-clear-requires-3
+clear-requires-3 c κs = search needs
+
+enum-told-2 : tie.Need-enum-told-2
+enum-told-2 c = search needs
+
+-- src/lib.rt:68:9
+same-length-4 : tie.Need-same-length-4
+same-length-4 c = search needs
+
+-- src/lib.rt:68:9
+same-length-5 : tie.Need-same-length-5
+same-length-5 c = search needs
+
+-- src/lib.rt:68:9
+same-length-6 : tie.Need-same-length-6
+same-length-6 c = search needs
+
+-- src/lib.rt:68:9
+returns-2 : tie.Need-returns-2
+returns-2 c = ?
+
+-- src/lib.rt:73:9
+header-of-requires : tie.Need-header-of-requires
+header-of-requires c κs = search needs
+
+-- src/lib.rt:74:16
+left-inputs-requires : tie.Need-left-inputs-requires
+left-inputs-requires c κs = search needs
+
+-- src/lib.rt:75:9
+emit-requires : tie.Need-emit-requires
+emit-requires c κs = ?
+
+-- src/lib.rt:46:1
+same-length-7 : tie.Need-same-length-7
+same-length-7 c = search needs
+
+-- src/lib.rt:46:1
+same-length-8 : tie.Need-same-length-8
+same-length-8 c = search needs
+
+-- src/lib.rt:46:1
+same-length-9 : tie.Need-same-length-9
+same-length-9 c = search needs
+
+-- src/lib.rt:46:1
+returns-3 : tie.Need-returns-3
+returns-3 c = ?
+
+pub translate-spec : {M : Type 1} → statement M
+translate-spec =
+    tie.close
+    (tie.spec
+    judge-requires
+    enum-told
+    same-length
+    same-length-2
+    same-length-3
+    returns
+    clear-requires
+    clear-requires-2
+    clear-requires-3
+    enum-told-2
+    same-length-4
+    same-length-5
+    same-length-6
+    returns-2
+    header-of-requires
+    left-inputs-requires
+    emit-requires
+    same-length-7
+    same-length-8
+    same-length-9
+    returns-3)
