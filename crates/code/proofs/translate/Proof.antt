@@ -1,3 +1,4 @@
+use Prim.Native.Nat.{ℕ}
 use borrow.Author.Needs.{needs}
 use Rattle.code.proofs.translate.Statement.{statement}
 use Rattle.code.proofs.translate.Tie as tie
@@ -31,7 +32,7 @@ same-length-3 c = search needs
 
 -- src/lib.rt:59:9
 returns : tie.Need-returns
-returns c = ?
+returns c = let k : ℕ = c .enum-told .given in ?
 
 -- src/lib.rt:64:5
 clear-requires : tie.Need-clear-requires
@@ -62,7 +63,7 @@ same-length-6 c = search needs
 
 -- src/lib.rt:68:9
 returns-2 : tie.Need-returns-2
-returns-2 c = ?
+returns-2 c = let k : ℕ = c .match2 .keys2 in ?
 
 -- src/lib.rt:73:9
 header-of-requires : tie.Need-header-of-requires
