@@ -5,4 +5,6 @@ pub mod SizeLaws
 pub mod CountLaws
 pub mod SectionLaws
 pub mod ProgramLaws
+pub mod JudgeLaws
 pub mod TranslateLaws
+pub mod Outcomes

@@ -7,6 +7,7 @@ use mathlib.Core.Path.{_≡_, refl, sym, ap, _∙_}
 use mathlib.Core.Bool.{Bool, true, false, _&&_, _||_, not}
 use mathlib.Core.List.{List, [], _∷_, _++_, append-nil, append-assoc}
 use borrow.Author.Tests.{ltb-true, leb-true, ltb-false}
+use types.Run.{miss}
 use lib.Dec.{ltb, leb, eqb}
 use lib.ListN.{length, getD, length-append}
 use lib.Seq.{sets}
@@ -38,7 +39,7 @@ use Rattle.graph.proofs.LinkLaws.{lefts-at, formed-linked}
 use Rattle.graph.proofs.HeaderLaws.{header-graph}
 use Rattle.code.specs.Writing.{written, Written, Roomy, Ranged, Root}
 use Rattle.code.specs.Emitting.{headed, Emitted, programGiven}
-use Rattle.code.specs.declared.Translated.{Translated}
+use Rattle.code.proofs.JudgeLaws.{notDone, notRoom, Tagged, some-node, linked-root, root-tree}
 
 -- ---- the tables
 
@@ -87,11 +88,6 @@ head-address : (D n S : ℕ) → headOk D n S ≡ true → S ≤ addressMost
 unfolding headOk
 head-address D n S e = leb-true _ _ (and-right (leb n elementsMost) _ (and-left (leb n elementsMost && leb S addressMost) _ e))
 
--- the tree of a sheet is that of its last node
-root-tree : (nodes : List ℕ) (N : ℕ) → 1 ≤ N → treeAt (nodeAt nodes) (N - 1) ≡ treeOf nodes N
-unfolding treeAt treeOf
-root-tree nodes N h = let e : suc (N - 1) ≡ N = omega arith in rw e
-
 section-roomy : (section : List ℕ) → sectionShort section ≡ false → Roomy section
 section-roomy section e = ltb-false _ _ e
 
@@ -136,15 +132,15 @@ module _ (head nodes : List ℕ) (workLen tableLen : ℕ) (P B E : List ℕ) whe
   abbrev cleared : List ℕ → List ℕ
   cleared section = padded (length section) []
 
-  pub refusal-leaves : (a : TranslateAnswer) → Answers a → (a ≡ Translate.Done → ⊥) → (a ≡ Translate.Room → ⊥)
+  pub refusal-leaves : (a : TranslateAnswer) → Answers a → Tagged notDone a → Tagged notRoom a
       → given a noProgram (cleared P) (cleared B) (cleared E) ≡ all
   unfolding translating
   refusal-leaves a e not-done not-room = rw (← e) (go a not-done not-room)
     where
-      go : (a : TranslateAnswer) → (a ≡ Translate.Done → ⊥) → (a ≡ Translate.Room → ⊥)
+      go : (a : TranslateAnswer) → Tagged notDone a → Tagged notRoom a
           → given a noProgram (cleared P) (cleared B) (cleared E) ≡ programLeft (ofTranslate a) (g .D) p P B E
-      go Translate.Done d r = absurd (d refl)
-      go Translate.Room d r = absurd (r refl)
+      go Translate.Done d r = absurd (miss notDone 0 tt d)
+      go Translate.Room d r = absurd (miss notRoom 1 tt r)
       go (Translate.Range k) d r = refl
       go (Translate.Shape k) d r = refl
       go (Translate.Window k) d r = refl
@@ -172,11 +168,8 @@ module _ (head nodes : List ℕ) (workLen tableLen : ℕ) (P B E : List ℕ) whe
     count-is : h .count ≡ g .N
     count-is = ap (λ (x : Graph). x .N) same-graph
 
-    some : 1 ≤ g .N
-    some = some-row vectorBytes (g .D) (g .N) nodes (formed .rows)
-
     root-is : treeAt (nodeAt nodes) (h .count - 1) ≡ graphTree g
-    root-is = rw count-is (root-tree nodes (g .N) some)
+    root-is = rw count-is (root-tree nodes (g .N) (some-node g formed))
 
     program-is : headed vectorBytes h nodes ≡ p
     program-is = rw (ap (λ (x : Graph). x .D) same-graph, root-is)
@@ -189,26 +182,18 @@ module _ (head nodes : List ℕ) (workLen tableLen : ℕ) (P B E : List ℕ) whe
     pub program-ready : (0 < h .count) × (h .elements ≤ elementsMost) × Root nodes (lefts (nodeAt nodes) nodesMost) (h .count - 1) (h .store .0)
     program-ready =
         let n = count-is in
-        let one = some in
+        let one = some-node g formed in
         let most = formed .most in (
           omega arith,
           head-passes (g .D) (g .n) (g .S) (formed .head) .elements,
           record {
-            linked = linked;
+            linked = rw count-is (linked-root g formed);
             ranged = rw root-is (tree-ranged (g .D) (graphTree g) (formed-tree-ok vectorBytes g formed));
             known = omega arith;
             short = rw root-is (long-done (graphTree g) (passed 7));
             address = head-address (g .D) (g .n) (g .S) (formed .head);
           },
         )
-      where
-        linked : Linked (nodeAt nodes) (λ (j : ℕ). getD (lefts (nodeAt nodes) nodesMost) j 0) (h .count - 1 + 1)
-        linked =
-            let n : h .count - 1 + 1 ≡ g .N = omega (arith, count-is, some) in
-            rw n
-            (formed-linked vectorBytes g formed (λ (j : ℕ). getD (lefts (nodeAt nodes) nodesMost) j 0)
-            (λ k l. lefts-at (nodeAt nodes) nodesMost k (omega (arith, formed .most))))
-
     pub cleared-roomy : Roomy (cleared P) × Roomy (cleared B) × Roomy (cleared E)
     cleared-roomy =
         let r = roomy in

@@ -1,3 +1,5 @@
+-- Each answer leaves what the definition lays down, and a graph that nothing refused has a program.
+use Rattle.code.proofs.TranslateLaws.{room-leaves, refusal-leaves, program-ready, cleared-roomy, program-leaves}
 use Prim.Native.Nat.{ℕ}
 use borrow.Author.Needs.{needs}
 use Rattle.code.proofs.translate.Statement.{statement}
@@ -32,7 +34,11 @@ same-length-3 c = search needs
 
 -- src/lib.rt:59:9
 returns : tie.Need-returns
-returns c = let k : ℕ = c .enum-told .given in ?
+returns c =
+    let j = c .before .before in
+    let s = j .before .before .before .before .before .before .before .before .before in
+    let a = s .args in
+    room-leaves (a .head .now) (a .nodes .now) (a .work-len) (a .table-len) (a .prologue .now) (a .body .now) (a .epilogue .now) (rw (c .enum-told .given .1) at (j .judge .ensures))
 
 -- src/lib.rt:64:5
 clear-requires : tie.Need-clear-requires
@@ -63,7 +69,16 @@ same-length-6 c = search needs
 
 -- src/lib.rt:68:9
 returns-2 : tie.Need-returns-2
-returns-2 c = let k : ℕ = c .match2 .keys2 in ?
+returns-2 c =
+    let z = c .before .before .before in
+    let y = z .before .before .before .before in
+    let x = y .before .before .before .before in
+    let m = x .before .before in
+    let j = m .before in
+    let s = j .before .before .before .before .before .before .before .before .before in
+    let a = s .args in
+    rw (x .clear .ensures, y .clear2 .ensures, z .clear3 .ensures)
+    (refusal-leaves (a .head .now) (a .nodes .now) (a .work-len) (a .table-len) (a .prologue .now) (a .body .now) (a .epilogue .now) (j .judge .result) (j .judge .ensures) (c .match2 .keys2) (m .match .keys2))
 
 -- src/lib.rt:73:9
 header-of-requires : tie.Need-header-of-requires
@@ -75,7 +90,19 @@ left-inputs-requires c κs = search needs
 
 -- src/lib.rt:75:9
 emit-requires : tie.Need-emit-requires
-emit-requires c κs = ?
+emit-requires c κs =
+    let l = c .before .before .before .before in
+    let h = l .before in
+    let t = h .before in
+    let z = t .before .before .before .before in
+    let y = z .before .before .before .before in
+    let x = y .before .before .before .before in
+    let j = x .before .before .before in
+    let s = j .before .before .before .before .before .before .before .before .before in
+    let a = s .args in
+    let e = rw (t .enum-told2 .given .1) at (j .judge .ensures) in
+    rw (l .left-inputs .ensures, h .header-of .ensures, x .clear .ensures, y .clear2 .ensures, z .clear3 .ensures)
+    (program-ready (a .head .now) (a .nodes .now) (a .work-len) (a .table-len) (a .prologue .now) (a .body .now) (a .epilogue .now) e, cleared-roomy (a .head .now) (a .nodes .now) (a .work-len) (a .table-len) (a .prologue .now) (a .body .now) (a .epilogue .now) e)
 
 -- src/lib.rt:46:1
 same-length-7 : tie.Need-same-length-7
@@ -91,7 +118,20 @@ same-length-9 c = search needs
 
 -- src/lib.rt:46:1
 returns-3 : tie.Need-returns-3
-returns-3 c = ?
+returns-3 c =
+    let w = c .before .before .before .before .before .before in
+    let l = w .before .before .before .before .before in
+    let h = l .before in
+    let t = h .before in
+    let z = t .before .before .before .before in
+    let y = z .before .before .before .before in
+    let x = y .before .before .before .before in
+    let j = x .before .before .before in
+    let s = j .before .before .before .before .before .before .before .before .before in
+    let a = s .args in
+    let e = rw (t .enum-told2 .given .1) at (j .judge .ensures) in
+    program-leaves (a .head .now) (a .nodes .now) (a .work-len) (a .table-len) (a .prologue .now) (a .body .now) (a .epilogue .now) e
+    (rw (h .header-of .ensures, x .clear .ensures, y .clear2 .ensures, z .clear3 .ensures) at (w .emit .ensures))
 
 pub translate-spec : {M : Type 1} → statement M
 translate-spec =

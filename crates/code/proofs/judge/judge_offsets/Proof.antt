@@ -1,0 +1,11 @@
+use Rattle.code.proofs.judge.judge_offsets.Statement.{statement}
+use Rattle.code.proofs.judge.judge_offsets.Tie as tie
+use Rattle.code.proofs.judge.judge_offsets.Reads as reads
+use Rattle.code.proofs.judge.judge_offsets.Lts as lts
+
+-- src/judge.rt:72:1
+returns : tie.Need-returns
+returns c = ?
+
+pub judge-offsets-spec : {M : Type 1} → statement M
+judge-offsets-spec = tie.close (tie.spec returns)
