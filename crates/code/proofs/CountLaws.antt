@@ -1,8 +1,7 @@
 -- The widths of an element divide a vector: there are lanes, and at most sixteen.
-use Prim.Native.Nat.{ℕ, _+_, _/_, _%_, _≤_, _<_}
+use Prim.Native.Nat.{ℕ, _+_, _/_, _≤_, _<_}
 use native.Mathlib.Nat.{mod-lt}
 use native.Mathlib.Omega.{arith}
-use mathlib.Core.Path.{_≡_}
 use Rattle.rules.specs.Limits.{vectorBytes, widthMost, elementsMost}
 use Rattle.rules.specs.Units.{widthBytes}
 use Rattle.rules.specs.Offsets.{storeOffset}

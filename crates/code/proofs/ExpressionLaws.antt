@@ -1,14 +1,14 @@
 -- Each node's code is made of its inputs' code: from what node k's code stands on, what each input's stands on, and from the
 -- inputs' code as it was written, node k's.
-use Prim.Native.Nat.{ℕ, zero, suc, _+_, _*_, _-_, _/_, _%_, _≤_, _<_}
+use Prim.Native.Nat.{ℕ, _+_, _*_, _-_, _/_, _%_, _≤_, _<_}
 use native.Mathlib.Omega.{arith}
-use mathlib.Core.Path.{_≡_, refl, sym, ap, _∙_}
+use mathlib.Core.Path.{_≡_, ap, _∙_}
 use mathlib.Core.Bool.{Bool, true, false, cond}
-use mathlib.Core.List.{List, [], _∷_, _++_}
+use mathlib.Core.List.{List, [], _∷_}
 use lib.Dec.{ltb}
-use lib.ListN.{length, getD}
+use lib.ListN.{getD}
 use Rattle.rules.specs.Limits.{vectorBytes, windows, addressMost, operations, sectionMost, lowValues}
-use Rattle.rules.specs.Trees.{Tree, load, splat, op, shift, nodeAt, treeAt}
+use Rattle.rules.specs.Trees.{Tree, load, splat, op, shift, nodeAt}
 use Rattle.rules.specs.Machine.{Load, Splat, Op}
 use Rattle.rules.specs.Code.{G, beside, pairUp, code}
 use Rattle.rules.specs.declared.nodes.LoadAt.{LoadAt}

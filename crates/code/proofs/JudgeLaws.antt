@@ -9,7 +9,7 @@ use types.Run.{OneOf, miss}
 use denote.Enum.Declared.{tagOf}
 use lib.ListN.{getD}
 use Rattle.rules.specs.Limits.{vectorBytes, nodesMost, longMost}
-use Rattle.rules.specs.Answers.{Answer, DONE, done, first, orElse, ofTranslate}
+use Rattle.rules.specs.Answers.{Answer, first, orElse, ofTranslate}
 use Rattle.rules.specs.Trees.{Tree, nodeAt, treeAt, treeOf}
 use Rattle.rules.specs.Code.{G}
 use Rattle.rules.specs.Tables.{Graph, graphOf}

@@ -1,8 +1,8 @@
 -- Which sections there are goes by n, then by F: the program's definition has a case for each of emit's.
 use Prim.Native.Nat.{ℕ, zero, suc}
 use native.Mathlib.Omega.{arith}
-use mathlib.Core.Path.{_≡_, refl, sym}
-use mathlib.Core.List.{List, []}
+use mathlib.Core.Path.{_≡_, refl}
+use mathlib.Core.List.{List}
 use Rattle.rules.specs.Trees.{Tree}
 use Rattle.rules.specs.Code.{fullVectors, restElements, onlySection, prologueSection, bodyOf, epilogueOf, sections, programOf}
 use Rattle.rules.specs.declared.program.ProgramHead.{ProgramHead}

@@ -2,18 +2,18 @@
 use Prim.Native.Nat.{ℕ, zero, suc, _+_, _*_, _-_, _≤_, _<_}
 use native.Mathlib.Nat.{zero-add}
 use native.Mathlib.Omega.{arith}
-use mathlib.Core.Path.{_≡_, refl, sym, ap, _∙_}
+use mathlib.Core.Path.{_≡_, refl, _∙_}
 use mathlib.Core.List.{List, [], _∷_, _++_, append-assoc}
-use lib.ListN.{length, length-append}
-use Rattle.rules.specs.Limits.{vectorBytes, addressZero, sectionMost}
+use lib.ListN.{length-append}
+use Rattle.rules.specs.Limits.{vectorBytes, sectionMost}
 use Rattle.rules.specs.Trees.{Tree, nodeAt, treeAt}
 use Rattle.rules.specs.Offsets.{storeOffset}
 use Rattle.rules.specs.Vectors.{blockZero, held}
 use Rattle.rules.specs.Machine.{Load, Splice, Store}
-use Rattle.rules.specs.Code.{G, code, new, oldBlock, store, onlySection, prologueSection, bodySection, bodyOf, epilogueSection, epilogueOf}
+use Rattle.rules.specs.Code.{G, code, new, oldBlock, onlySection, prologueSection, bodySection, bodyOf, epilogueSection, epilogueOf}
 use Rattle.rules.specs.declared.program.Instruction.{Instruction}
 use Rattle.theory.proofs.Coded.{size-pos, length-code}
-use Rattle.code.specs.Writing.{Written, Roomy, Root}
+use Rattle.code.specs.Writing.{Written, Roomy, Root, newAndOld}
 use Rattle.code.proofs.WritingLaws.{written-then, written-length, written-none}
 use Rattle.code.proofs.ExpressionLaws.{code-rows}
 
@@ -36,7 +36,7 @@ module _ {nodes left : List ℕ} {root S : ℕ} (r : Root nodes left root S) whe
         (omega (arith, size-pos t), omega (arith, r .short), omega (arith, room, written-length w))
 
     pub blocks-written : {after : List ℕ} {next : ℕ} → Written one after old next (Load old 0 (S + vectorBytes * blockNumber) ∷ [])
-        → Written before after 0 next (new vectorBytes S t ++ (oldBlock vectorBytes S t (G t) ∷ []))
+        → Written before after 0 next (newAndOld S t)
     unfolding blockZero
     blocks-written v =
         rw tree-end at (written-then w v)
@@ -57,7 +57,7 @@ module _ {nodes left : List ℕ} {root S : ℕ} (r : Root nodes left root S) whe
 
   -- what is free after the old block, and how it goes on
   module _ {before one : List ℕ} {first : ℕ} (room : Roomy before)
-      (w : Written before one 0 first (new vectorBytes S t ++ (oldBlock vectorBytes S t (G t) ∷ []))) where
+      (w : Written before one 0 first (newAndOld S t)) where
     first-row : first ≡ G t + 1
     first-row =
         let n = length-append (new vectorBytes S t) (oldBlock vectorBytes S t (G t) ∷ []) in

@@ -1,10 +1,9 @@
 -- A sum of capped sizes, capped, is the sum of the sizes, capped: so G is counted up to its cap from the inputs' counts.
-use Prim.Native.Nat.{ℕ, _+_, _*_, _-_, _≤_, min}
+use Prim.Native.Nat.{ℕ, _+_, _*_, _-_, _≤_}
 use native.Mathlib.Omega.{arith}
-use mathlib.Core.Path.{_≡_, refl, ap, _∙_}
+use mathlib.Core.Path.{_≡_, ap, _∙_}
 use mathlib.Core.List.{List}
 use lib.ListN.{getD}
-use lib.Dec.{ltb}
 use Rattle.rules.specs.Limits.{longMost}
 use Rattle.rules.specs.Trees.{nodeAt}
 use Rattle.rules.specs.Code.{G}

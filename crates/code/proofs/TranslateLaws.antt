@@ -1,24 +1,23 @@
 -- What each answer leaves, as the definition of translating lays it down; and what a graph has that nothing refused: the root's
 -- code can be written, and fits.
-use Prim.Native.Nat.{ℕ, zero, suc, _+_, _-_, _*_, _%_, _≤_, _<_}
+use Prim.Native.Nat.{ℕ, suc, _+_, _-_, _%_, _≤_, _<_}
 use native.Mathlib.Nat.{zero-add}
 use native.Mathlib.Omega.{arith}
 use mathlib.Core.Path.{_≡_, refl, sym, ap, _∙_}
-use mathlib.Core.Bool.{Bool, true, false, _&&_, _||_, not}
+use mathlib.Core.Bool.{Bool, true, false, _&&_, _||_}
 use mathlib.Core.List.{List, [], _∷_, _++_, append-nil, append-assoc}
 use borrow.Author.Tests.{ltb-true, leb-true, ltb-false}
 use types.Run.{miss}
 use lib.Dec.{ltb, leb, eqb}
 use lib.ListN.{length, getD, length-append}
 use lib.Seq.{sets}
-use Rattle.rules.specs.Limits.{vectorBytes, nodesMost, elementsMost, addressMost, sectionMost, longMost, instructionEntries}
-use Rattle.rules.specs.Answers.{Answer, DONE, ROOM, at, done, ofTranslate, first}
+use Rattle.rules.specs.Limits.{vectorBytes, nodesMost, elementsMost, addressMost, sectionMost}
+use Rattle.rules.specs.Answers.{Answer, DONE, at, done, ofTranslate, first}
 use Rattle.rules.specs.Units.{widthBytes}
 use Rattle.rules.specs.Ranges.{headOk, loadOk, opOk, shiftOk, rowOk}
-use Rattle.rules.specs.Trees.{Tree, load, splat, op, shift, nodeAt, waiting, treeAt, treeOf}
+use Rattle.rules.specs.Trees.{Tree, load, splat, op, shift, nodeAt, treeAt}
 use Rattle.rules.specs.Machine.{Program}
-use Rattle.rules.specs.Code.{G, programOf}
-use Rattle.rules.specs.Tables.{Graph, graphOf, entries, programHead, noProgram, padded, tableLeft, headLeft}
+use Rattle.rules.specs.Tables.{Graph, graphOf, entries, programHead, noProgram, padded}
 use Rattle.rules.specs.Checks.{sectionShort, headShort, nodesShort, roomCheck, formCheck, windowCheck, alignCheck, boundsCheck, carryCheck, offsetCheck, longCheck}
 use Rattle.rules.specs.Calls.{WithProgram, graphTree, graphProgram, programLeft, translateAnswer, translating}
 use Rattle.rules.specs.declared.answers.TranslateAnswer.{TranslateAnswer}
@@ -27,15 +26,14 @@ use Rattle.rules.specs.declared.program.Instruction.{Instruction}
 use Rattle.rules.specs.declared.program.ProgramHead.{ProgramHead}
 use Rattle.theory.proofs.Lists.{and-left, and-right}
 use Rattle.theory.proofs.RowLaws.{length-entries, length-padded}
-use Rattle.theory.proofs.FormLaws.{Formed, TreeOk, each-check-done, refuse-done, some-row, passes-formed, formed-tree-ok}
-use Rattle.theory.proofs.Checked.{HeadPasses, head-passes, long-done}
-use Rattle.theory.proofs.Handed.{Fits, program-fits}
+use Rattle.theory.proofs.FormLaws.{Formed, TreeOk, each-check-done, refuse-done, passes-formed, formed-tree-ok}
+use Rattle.theory.proofs.Checked.{head-passes, long-done}
+use Rattle.theory.proofs.Handed.{program-fits}
 use Rattle.theory.proofs.Demands.{sections-roomy}
 use Rattle.tables.proofs.TableLaws.{padded-put}
-use Rattle.graph.specs.Links.{lefts, leftOf, Linked}
+use Rattle.graph.specs.Links.{lefts}
 use Rattle.graph.specs.declared.headers.Header.{Header}
 use Rattle.graph.specs.Headers.{headerOf, graphIn}
-use Rattle.graph.proofs.LinkLaws.{lefts-at, formed-linked}
 use Rattle.graph.proofs.HeaderLaws.{header-graph}
 use Rattle.code.specs.Writing.{written, Written, Roomy, Ranged, Root}
 use Rattle.code.specs.Emitting.{headed, Emitted, programGiven}
@@ -194,6 +192,7 @@ module _ (head nodes : List ℕ) (workLen tableLen : ℕ) (P B E : List ℕ) whe
             address = head-address (g .D) (g .n) (g .S) (formed .head);
           },
         )
+
     pub cleared-roomy : Roomy (cleared P) × Roomy (cleared B) × Roomy (cleared E)
     cleared-roomy =
         let r = roomy in

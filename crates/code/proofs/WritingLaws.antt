@@ -1,5 +1,5 @@
 -- Instructions that are written one after the other are written as one list, each from the row after the one before.
-use Prim.Native.Nat.{ℕ, zero, suc, _+_, _*_, _≤_, _<_}
+use Prim.Native.Nat.{ℕ, suc, _+_, _*_}
 use native.Mathlib.Nat.{add-zero, add-suc, suc-add}
 use native.Mathlib.Numerals.{towards-suc}
 use native.Mathlib.Omega.{arith}

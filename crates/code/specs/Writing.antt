@@ -1,12 +1,12 @@
 -- Instructions written into a section, and what a tree's code needs so that it can be: numbers of 32 bits, and rows.
 use Prim.Native.Nat.{ℕ, _+_, _*_, _-_, _^_, _≤_, _<_, min}
 use mathlib.Core.Path.{_≡_}
-use mathlib.Core.List.{List}
+use mathlib.Core.List.{List, [], _∷_, _++_}
 use lib.ListN.{length, getD}
 use lib.Seq.{sets}
 use Rattle.rules.specs.Limits.{vectorBytes, windows, addressMost, operations, nodesMost, sectionMost, longMost, instructionEntries}
 use Rattle.rules.specs.Trees.{Tree, load, splat, op, shift, nodeAt, treeAt}
-use Rattle.rules.specs.Code.{G}
+use Rattle.rules.specs.Code.{G, new, oldBlock}
 use Rattle.rules.specs.Tables.{entries}
 use Rattle.rules.specs.declared.program.Instruction.{Instruction}
 use Rattle.graph.specs.Links.{Linked}
@@ -57,3 +57,7 @@ pub record Root (nodes left : List ℕ) (root S : ℕ) : Type 0 where
   pub known : root < nodesMost
   pub short : G (treeAt (nodeAt nodes) root) ≤ longMost
   pub address : S ≤ addressMost
+
+-- what every section but the body begins with: the tree, and the old block
+abbrev pub newAndOld : (S : ℕ) → Tree → List Instruction
+newAndOld S t = new vectorBytes S t ++ (oldBlock vectorBytes S t (G t) ∷ [])

@@ -50,10 +50,10 @@ pub(crate) fn gen_expr(
         Node::Splat(value) => put_splat(section, row, value),
         Node::Op(operation) => {
             let at = k as usize;
-            let input = left[at];
-            let middle = gen_expr(nodes, left, input, blocks, row, section);
-            let right = k - 1;
-            let end = gen_expr(nodes, left, right, blocks, middle, section);
+            let left_input = left[at];
+            let right_input = k - 1;
+            let middle = gen_expr(nodes, left, left_input, blocks, row, section);
+            let end = gen_expr(nodes, left, right_input, blocks, middle, section);
             let one = middle - 1;
             let other = end - 1;
             put_op(section, end, operation, one, other)
@@ -76,8 +76,8 @@ fn gen_shift(
     ensures { λ r. ⌜ Written (now (section .entry)) (now (section .exit)) row r (code vectorBytes (treeAt (nodeAt (now (nodes .entry))) k) (blocks .0) row) ⌝ }
 {
     let child = k - 1;
-    let middle = gen_expr(nodes, left, child, blocks, row, section);
     let moved = beside(by, blocks);
+    let middle = gen_expr(nodes, left, child, blocks, row, section);
     let end = gen_expr(nodes, left, child, moved, middle, section);
     let this = middle - 1;
     let other = end - 1;

@@ -91,7 +91,13 @@ pub(crate) fn put_splat(section: &mut [u32], row: usize, value: u64) -> usize
     put(section, row, i)
 }
 
-pub(crate) fn put_op(section: &mut [u32], row: usize, operation: u64, left: usize, right: usize) -> usize
+pub(crate) fn put_op(
+    section: &mut [u32],
+    row: usize,
+    operation: u64,
+    left: usize,
+    right: usize,
+) -> usize
     requires { ⌜ (row < sectionMost) × Roomy (now section) ⌝ }
     requires { ⌜ (operation < operations) × (left < sectionMost) × (right < sectionMost) ⌝ }
     ensures { λ r. ⌜ Written (now (section .entry)) (now (section .exit)) row r (Op row operation left right ∷ []) ⌝ }
@@ -137,7 +143,13 @@ fn pair_up(by: ShiftBy, destination: u32, this: u32, other: u32) -> Instruction
     }
 }
 
-pub(crate) fn put_pair(section: &mut [u32], row: usize, by: ShiftBy, this: usize, other: usize) -> usize
+pub(crate) fn put_pair(
+    section: &mut [u32],
+    row: usize,
+    by: ShiftBy,
+    this: usize,
+    other: usize,
+) -> usize
     requires { ⌜ (row < sectionMost) × Roomy (now section) ⌝ }
     requires { ⌜ (by .«from» .0 < vectorBytes) × (by .to .0 < vectorBytes) × (this < sectionMost) × (other < sectionMost) ⌝ }
     ensures { λ r. ⌜ Written (now (section .entry)) (now (section .exit)) row r (pairUp vectorBytes (by .«from» .0) (by .to .0) row this other ∷ []) ⌝ }
@@ -149,7 +161,13 @@ pub(crate) fn put_pair(section: &mut [u32], row: usize, by: ShiftBy, this: usize
     put(section, row, i)
 }
 
-pub(crate) fn put_splice(section: &mut [u32], row: usize, first: usize, second: usize, amount: ByteOffset) -> usize
+pub(crate) fn put_splice(
+    section: &mut [u32],
+    row: usize,
+    first: usize,
+    second: usize,
+    amount: ByteOffset,
+) -> usize
     requires { ⌜ (row < sectionMost) × Roomy (now section) ⌝ }
     requires { ⌜ (first < sectionMost) × (second < sectionMost) × (amount .0 < lowValues) ⌝ }
     ensures { λ r. ⌜ Written (now (section .entry)) (now (section .exit)) row r (Splice row first second (amount .0) ∷ []) ⌝ }

@@ -12,13 +12,12 @@ use rules::units::ByteOffset;
 use rules::units::ElementNumber;
 use rules::units::VectorNumber;
 use rules::units::Width;
-ghost use mathlib.Core.List.{[], _∷_, _++_};
 ghost use Prim.Native.Nat.{_≤_};
 ghost use Rattle.rules.specs.Limits.{vectorBytes, elementsMost};
 ghost use Rattle.rules.specs.Units.{widthBytes};
 ghost use Rattle.rules.specs.Trees.{nodeAt, treeAt};
-ghost use Rattle.rules.specs.Code.{G, new, oldBlock, onlySection, prologueSection, bodyOf, epilogueOf};
-ghost use Rattle.code.specs.Writing.{Written, Roomy, Root};
+ghost use Rattle.rules.specs.Code.{onlySection, prologueSection, bodyOf, epilogueOf};
+ghost use Rattle.code.specs.Writing.{Written, Roomy, Root, newAndOld};
 
 const WORK: u64 = 0;
 
@@ -26,9 +25,15 @@ const WORK: u64 = 0;
 const BODY_FROM: u64 = 2;
 
 // The tree and, after it, the old block; the row of the first splice.
-fn put_blocks(nodes: &[u64], left: &[u8; 64], root: u8, store: ByteOffset, section: &mut [u32]) -> usize
+fn put_blocks(
+    nodes: &[u64],
+    left: &[u8; 64],
+    root: u8,
+    store: ByteOffset,
+    section: &mut [u32],
+) -> usize
     requires { ⌜ Root (now nodes) (now left) root (store .0) × Roomy (now section) ⌝ }
-    ensures { λ r. ⌜ Written (now (section .entry)) (now (section .exit)) 0 r (new vectorBytes (store .0) (treeAt (nodeAt (now (nodes .entry))) root) ++ (oldBlock vectorBytes (store .0) (treeAt (nodeAt (now (nodes .entry))) root) (G (treeAt (nodeAt (now (nodes .entry))) root)) ∷ [])) ⌝ }
+    ensures { λ r. ⌜ Written (now (section .entry)) (now (section .exit)) 0 r (newAndOld (store .0) (treeAt (nodeAt (now (nodes .entry))) root)) ⌝ }
 {
     let zero = VectorNumber(BLOCK_ZERO);
     let old = gen_expr(nodes, left, root, zero, 0, section);
@@ -64,7 +69,13 @@ pub(crate) fn put_only(
 }
 
 // F ≥ 1: the new block from c on.
-pub(crate) fn put_prologue(nodes: &[u64], left: &[u8; 64], root: u8, store: ByteOffset, section: &mut [u32]) -> usize
+pub(crate) fn put_prologue(
+    nodes: &[u64],
+    left: &[u8; 64],
+    root: u8,
+    store: ByteOffset,
+    section: &mut [u32],
+) -> usize
     requires { ⌜ Root (now nodes) (now left) root (store .0) × Roomy (now section) ⌝ }
     ensures { λ r. ⌜ Written (now (section .entry)) (now (section .exit)) 0 r (prologueSection vectorBytes (store .0) (treeAt (nodeAt (now (nodes .entry))) root)) ⌝ }
 {

@@ -28,10 +28,10 @@ pub(crate) fn size(nodes: &[u64], left: &[u8; 64], k: u8) -> usize
         Node::Splat(_) => 1,
         Node::Op(_) => {
             let at = k as usize;
-            let input = left[at];
-            let one = size(nodes, left, input);
-            let right = k - 1;
-            let other = size(nodes, left, right);
+            let left_input = left[at];
+            let right_input = k - 1;
+            let one = size(nodes, left, left_input);
+            let other = size(nodes, left, right_input);
             let both = one + other + 1;
             cap(both)
         }

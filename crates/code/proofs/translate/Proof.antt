@@ -1,38 +1,24 @@
 -- Each answer leaves what the definition lays down, and a graph that nothing refused has a program.
 use Rattle.code.proofs.TranslateLaws.{room-leaves, refusal-leaves, program-ready, cleared-roomy, program-leaves}
-use Prim.Native.Nat.{ℕ}
 use borrow.Author.Needs.{needs}
 use Rattle.code.proofs.translate.Statement.{statement}
 use Rattle.code.proofs.translate.Tie as tie
-use Rattle.code.proofs.translate.Reads as reads
-use Rattle.code.proofs.translate.Lts as lts
-use Rattle.code.proofs.clear.Reads as clear-reads
-use Rattle.code.proofs.judge.judge.Reads as judge-reads
-use Rattle.code.proofs.programs.emit.Reads as emit-reads
-use Rattle.graph.proofs.header_of.Reads as header-of-reads
-use Rattle.graph.proofs.left_inputs.Reads as left-inputs-reads
 
--- src/lib.rt:57:9
 judge-requires : tie.Need-judge-requires
 judge-requires c κs = search needs
 
--- src/lib.rt:60:21
 enum-told : tie.Need-enum-told
 enum-told c = search needs
 
--- src/lib.rt:59:9
 same-length : tie.Need-same-length
 same-length c = search needs
 
--- src/lib.rt:59:9
 same-length-2 : tie.Need-same-length-2
 same-length-2 c = search needs
 
--- src/lib.rt:59:9
 same-length-3 : tie.Need-same-length-3
 same-length-3 c = search needs
 
--- src/lib.rt:59:9
 returns : tie.Need-returns
 returns c =
     let j = c .before .before in
@@ -40,34 +26,27 @@ returns c =
     let a = s .args in
     room-leaves (a .head .now) (a .nodes .now) (a .work-len) (a .table-len) (a .prologue .now) (a .body .now) (a .epilogue .now) (rw (c .enum-told .given .1) at (j .judge .ensures))
 
--- src/lib.rt:64:5
 clear-requires : tie.Need-clear-requires
 clear-requires c κs = search needs
 
--- src/lib.rt:65:5
 clear-requires-2 : tie.Need-clear-requires-2
 clear-requires-2 c κs = search needs
 
--- src/lib.rt:66:5
 clear-requires-3 : tie.Need-clear-requires-3
 clear-requires-3 c κs = search needs
 
 enum-told-2 : tie.Need-enum-told-2
 enum-told-2 c = search needs
 
--- src/lib.rt:68:9
 same-length-4 : tie.Need-same-length-4
 same-length-4 c = search needs
 
--- src/lib.rt:68:9
 same-length-5 : tie.Need-same-length-5
 same-length-5 c = search needs
 
--- src/lib.rt:68:9
 same-length-6 : tie.Need-same-length-6
 same-length-6 c = search needs
 
--- src/lib.rt:68:9
 returns-2 : tie.Need-returns-2
 returns-2 c =
     let z = c .before .before .before in
@@ -80,15 +59,12 @@ returns-2 c =
     rw (x .clear .ensures, y .clear2 .ensures, z .clear3 .ensures)
     (refusal-leaves (a .head .now) (a .nodes .now) (a .work-len) (a .table-len) (a .prologue .now) (a .body .now) (a .epilogue .now) (j .judge .result) (j .judge .ensures) (c .match2 .keys2) (m .match .keys2))
 
--- src/lib.rt:73:9
 header-of-requires : tie.Need-header-of-requires
 header-of-requires c κs = search needs
 
--- src/lib.rt:74:16
 left-inputs-requires : tie.Need-left-inputs-requires
 left-inputs-requires c κs = search needs
 
--- src/lib.rt:75:9
 emit-requires : tie.Need-emit-requires
 emit-requires c κs =
     let l = c .before .before .before .before in
@@ -104,19 +80,15 @@ emit-requires c κs =
     rw (l .left-inputs .ensures, h .header-of .ensures, x .clear .ensures, y .clear2 .ensures, z .clear3 .ensures)
     (program-ready (a .head .now) (a .nodes .now) (a .work-len) (a .table-len) (a .prologue .now) (a .body .now) (a .epilogue .now) e, cleared-roomy (a .head .now) (a .nodes .now) (a .work-len) (a .table-len) (a .prologue .now) (a .body .now) (a .epilogue .now) e)
 
--- src/lib.rt:46:1
 same-length-7 : tie.Need-same-length-7
 same-length-7 c = search needs
 
--- src/lib.rt:46:1
 same-length-8 : tie.Need-same-length-8
 same-length-8 c = search needs
 
--- src/lib.rt:46:1
 same-length-9 : tie.Need-same-length-9
 same-length-9 c = search needs
 
--- src/lib.rt:46:1
 returns-3 : tie.Need-returns-3
 returns-3 c =
     let w = c .before .before .before .before .before .before in

@@ -6,15 +6,10 @@ use Rattle.code.proofs.CountLaws.{width-most}
 use borrow.Author.Needs.{needs}
 use Rattle.code.proofs.counts.byte_of_element.Statement.{statement}
 use Rattle.code.proofs.counts.byte_of_element.Tie as tie
-use Rattle.code.proofs.counts.byte_of_element.Reads as reads
-use Rattle.code.proofs.counts.byte_of_element.Lts as lts
-use Rattle.code.proofs.counts.width_bytes.Reads as width-bytes-reads
 
--- src/counts.rt:44:9
 width-bytes-requires : tie.Need-width-bytes-requires
 width-bytes-requires c κs = search needs
 
--- src/counts.rt:45:14
 mul-at : tie.Need-mul-at
 mul-at c =
     let d = c .before in
@@ -22,7 +17,6 @@ mul-at c =
     let most : d .width-bytes .result ≤ 8 = rw (d .width-bytes .ensures) (width-most (s .args .width)) in
     omega (arith, mul-le-mul (s .pre) most)
 
--- src/counts.rt:40:1
 returns : tie.Need-returns
 returns c =
     let d = c .before in

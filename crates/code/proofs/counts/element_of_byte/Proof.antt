@@ -4,22 +4,16 @@ use Rattle.code.proofs.CountLaws.{width-some}
 use borrow.Author.Needs.{needs}
 use Rattle.code.proofs.counts.element_of_byte.Statement.{statement}
 use Rattle.code.proofs.counts.element_of_byte.Tie as tie
-use Rattle.code.proofs.counts.element_of_byte.Reads as reads
-use Rattle.code.proofs.counts.element_of_byte.Lts as lts
-use Rattle.code.proofs.counts.width_bytes.Reads as width-bytes-reads
 
--- src/counts.rt:35:9
 width-bytes-requires : tie.Need-width-bytes-requires
 width-bytes-requires c κs = search needs
 
--- src/counts.rt:36:13
 div-i : tie.Need-div-i
 div-i c =
     let d = c .before in
     let s = d .before in
     omega (arith, d .width-bytes .ensures, width-some (s .args .width))
 
--- src/counts.rt:32:1
 returns : tie.Need-returns
 returns c =
     let d = c .before in

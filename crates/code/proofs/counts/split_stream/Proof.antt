@@ -8,32 +8,22 @@ use Rattle.code.proofs.CountLaws.{width-some, lanes-some, offset-small}
 use borrow.Author.Needs.{needs}
 use Rattle.code.proofs.counts.split_stream.Statement.{statement}
 use Rattle.code.proofs.counts.split_stream.Tie as tie
-use Rattle.code.proofs.counts.split_stream.Reads as reads
-use Rattle.code.proofs.counts.split_stream.Lts as lts
-use Rattle.code.proofs.counts.element_of_byte.Reads as element-of-byte-reads
-use Rattle.code.proofs.counts.store_offset.Reads as store-offset-reads
-use Rattle.code.proofs.counts.width_bytes.Reads as width-bytes-reads
 
--- src/counts.rt:61:40
 store-offset-requires : tie.Need-store-offset-requires
 store-offset-requires c κs = search needs
 
--- src/counts.rt:61:9
 element-of-byte-requires : tie.Need-element-of-byte-requires
 element-of-byte-requires c κs = search needs
 
--- src/counts.rt:62:9
 width-bytes-requires : tie.Need-width-bytes-requires
 width-bytes-requires c κs = search needs
 
--- src/counts.rt:63:17
 div-lanes : tie.Need-div-lanes
 div-lanes c =
     let d = c in
     let s = d .before .before .before in
     omega (arith, d .width-bytes .ensures, width-some (s .args .width))
 
--- src/counts.rt:64:15
 add-end : tie.Need-add-end
 add-end c =
     let e = c .before .before .before in
@@ -42,21 +32,18 @@ add-end c =
     let first = ap (λ (x : ElementNumber). x .0) (e .element-of-byte .ensures) in
     omega (arith, first, o .store-offset .ensures, offset-small (s .args .store .0), div-le-self (o .store-offset .result .0) (widthBytes (s .args .width)))
 
--- src/counts.rt:65:16
 div-full : tie.Need-div-full
 div-full c =
     let d = c .before .before in
     let s = d .before .before .before in
     rw (d .width-bytes .ensures) (lanes-some (s .args .width))
 
--- src/counts.rt:66:16
 rem-rest : tie.Need-rem-rest
 rem-rest c =
     let d = c .before .before in
     let s = d .before .before .before in
     rw (d .width-bytes .ensures) (lanes-some (s .args .width))
 
--- src/counts.rt:56:1
 returns : tie.Need-returns
 returns c =
     let d = c .before .before in

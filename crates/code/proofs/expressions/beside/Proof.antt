@@ -4,23 +4,17 @@ use Rattle.rules.specs.Code.{beside}
 use borrow.Author.Needs.{needs}
 use Rattle.code.proofs.expressions.beside.Statement.{statement}
 use Rattle.code.proofs.expressions.beside.Tie as tie
-use Rattle.code.proofs.expressions.beside.Reads as reads
-use Rattle.code.proofs.expressions.beside.Lts as lts
 
--- src/expressions.rt:26:20
 add-next : tie.Need-add-next
 add-next c = search needs
 
--- src/expressions.rt:29:24
 sub-previous : tie.Need-sub-previous
 sub-previous c = search needs
 
--- src/expressions.rt:19:1
 returns : tie.Need-returns
 unfolding beside
 returns c = rw (lt-ltb _ _ (c .before .if1 .taken))
 
--- src/expressions.rt:19:1
 returns-2 : tie.Need-returns-2
 unfolding beside
 returns-2 c = rw (le-ltb _ _ (c .before .if1 .left))

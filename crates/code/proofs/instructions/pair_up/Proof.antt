@@ -4,31 +4,23 @@ use Rattle.rules.specs.Code.{pairUp}
 use borrow.Author.Needs.{needs}
 use Rattle.code.proofs.instructions.pair_up.Statement.{statement}
 use Rattle.code.proofs.instructions.pair_up.Tie as tie
-use Rattle.code.proofs.instructions.pair_up.Reads as reads
-use Rattle.code.proofs.instructions.pair_up.Lts as lts
 
--- src/instructions.rt:118:23
 sub-amount : tie.Need-sub-amount
 sub-amount c = search needs
 
--- src/instructions.rt:118:22
 cast-amount : tie.Need-cast-amount
 cast-amount c = search needs
 
--- src/instructions.rt:128:23
 sub-amount-2 : tie.Need-sub-amount-2
 sub-amount-2 c = search needs
 
--- src/instructions.rt:128:22
 cast-amount-2 : tie.Need-cast-amount-2
 cast-amount-2 c = search needs
 
--- src/instructions.rt:111:1
 returns : tie.Need-returns
 unfolding pairUp
 returns c = rw (lt-ltb _ _ (c .if1 .taken))
 
--- src/instructions.rt:111:1
 returns-2 : tie.Need-returns-2
 unfolding pairUp
 returns-2 c = rw (le-ltb _ _ (c .if1 .left))

@@ -9,90 +9,67 @@ use Rattle.code.proofs.WritingLaws.{stored-in-turn}
 use borrow.Author.Needs.{needs}
 use Rattle.code.proofs.instructions.put.Statement.{statement}
 use Rattle.code.proofs.instructions.put.Tie as tie
-use Rattle.code.proofs.instructions.put.Reads as reads
-use Rattle.code.proofs.instructions.put.Lts as lts
 
--- src/instructions.rt:43:14
 mul-at : tie.Need-mul-at
 mul-at c = search needs
 
--- src/instructions.rt:44:5
 mul-section : tie.Need-mul-section
 mul-section c = search needs
 
--- src/instructions.rt:44:5
 slice-write-section : tie.Need-slice-write-section
 slice-write-section c = search needs
 
--- src/instructions.rt:45:13
 add-section : tie.Need-add-section
 add-section c = search needs
 
--- src/instructions.rt:45:5
 mul-section-2 : tie.Need-mul-section-2
 mul-section-2 c = search needs
 
--- src/instructions.rt:45:5
 slice-write-section-2 : tie.Need-slice-write-section-2
 slice-write-section-2 c = simp length-set (omega arith)
 
--- src/instructions.rt:46:13
 add-section-2 : tie.Need-add-section-2
 add-section-2 c = search needs
 
--- src/instructions.rt:46:5
 mul-section-3 : tie.Need-mul-section-3
 mul-section-3 c = search needs
 
--- src/instructions.rt:46:5
 slice-write-section-3 : tie.Need-slice-write-section-3
 slice-write-section-3 c = simp length-set (omega arith)
 
--- src/instructions.rt:47:13
 add-section-3 : tie.Need-add-section-3
 add-section-3 c = search needs
 
--- src/instructions.rt:47:5
 mul-section-4 : tie.Need-mul-section-4
 mul-section-4 c = search needs
 
--- src/instructions.rt:47:5
 slice-write-section-4 : tie.Need-slice-write-section-4
 slice-write-section-4 c = simp length-set (omega arith)
 
--- src/instructions.rt:48:13
 add-section-4 : tie.Need-add-section-4
 add-section-4 c = search needs
 
--- src/instructions.rt:48:5
 mul-section-5 : tie.Need-mul-section-5
 mul-section-5 c = search needs
 
--- src/instructions.rt:48:5
 slice-write-section-5 : tie.Need-slice-write-section-5
 slice-write-section-5 c = simp length-set (omega arith)
 
--- src/instructions.rt:49:13
 add-section-5 : tie.Need-add-section-5
 add-section-5 c = search needs
 
--- src/instructions.rt:49:5
 mul-section-6 : tie.Need-mul-section-6
 mul-section-6 c = search needs
 
--- src/instructions.rt:49:5
 slice-write-section-6 : tie.Need-slice-write-section-6
 slice-write-section-6 c = simp length-set (omega arith)
 
--- src/instructions.rt:50:5
 add-result : tie.Need-add-result
 add-result c = search needs
 
--- src/instructions.rt:39:1
 same-length : tie.Need-same-length
 same-length c = search needs
 
--- src/instructions.rt:39:1
 returns : tie.Need-returns
 unfolding written
 returns c =

@@ -3,28 +3,19 @@ use Rattle.rules.specs.Vectors.{blockZero}
 use borrow.Author.Needs.{needs}
 use Rattle.code.proofs.instructions.put_store.Statement.{statement}
 use Rattle.code.proofs.instructions.put_store.Tie as tie
-use Rattle.code.proofs.instructions.put_store.Reads as reads
-use Rattle.code.proofs.instructions.put_store.Lts as lts
-use Rattle.code.proofs.instructions.moved.Reads as moved-reads
-use Rattle.code.proofs.instructions.put.Reads as put-reads
 
--- src/instructions.rt:173:20
 cast-register : tie.Need-cast-register
 cast-register c = search needs
 
--- src/instructions.rt:179:14
 moved-requires : tie.Need-moved-requires
 moved-requires c κs = search needs
 
--- src/instructions.rt:182:5
 put-requires : tie.Need-put-requires
 put-requires c κs = search needs
 
--- src/instructions.rt:169:1
 same-length : tie.Need-same-length
 same-length c = search needs
 
--- src/instructions.rt:169:1
 returns : tie.Need-returns
 unfolding blockZero
 returns c = rw (c .before .before .before .before .moved .ensures) at (c .before .before .put .ensures)

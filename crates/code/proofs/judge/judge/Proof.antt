@@ -3,20 +3,10 @@ use Rattle.code.proofs.JudgeLaws.{room-found, form-refused, formed, sam
 use borrow.Author.Needs.{needs}
 use Rattle.code.proofs.judge.judge.Statement.{statement}
 use Rattle.code.proofs.judge.judge.Tie as tie
-use Rattle.code.proofs.judge.judge.Reads as reads
-use Rattle.code.proofs.judge.judge.Lts as lts
-use Rattle.code.proofs.judge.judge_addresses.Reads as judge-addresses-reads
-use Rattle.code.proofs.judge.judge_form.Reads as judge-form-reads
-use Rattle.code.proofs.judge.judge_offsets.Reads as judge-offsets-reads
-use Rattle.code.proofs.judge.judge_size.Reads as judge-size-reads
-use Rattle.code.proofs.judge.sections_short.Reads as sections-short-reads
-use Rattle.graph.proofs.header_of.Reads as header-of-reads
 
--- src/judge.rt:104:8
 sections-short-requires : tie.Need-sections-short-requires
 sections-short-requires c κs = search needs
 
--- src/judge.rt:105:9
 returns : tie.Need-returns
 returns c =
     let b = c .before in
@@ -24,14 +14,12 @@ returns c =
     let a = s .args in
     room-found (a .head .now) (a .nodes .now) (a .work-len) (a .table-len) (a .prologue .now) (a .body .now) (a .epilogue .now) (rw (c .if1 .taken) at (b .sections-short .ensures))
 
--- src/judge.rt:107:9
 judge-form-requires : tie.Need-judge-form-requires
 judge-form-requires c κs = search needs
 
 enum-told : tie.Need-enum-told
 enum-told c = search needs
 
--- src/judge.rt:109:9
 returns-2 : tie.Need-returns-2
 returns-2 c =
     let f = c .before in
@@ -42,18 +30,15 @@ returns-2 c =
     let h = rw (i .if1 .left) at (b .sections-short .ensures) in
     form-refused (a .head .now) (a .nodes .now) (a .work-len) (a .table-len) (a .prologue .now) (a .body .now) (a .epilogue .now) h (f .judge-form .result) (c .match .keys2) (f .judge-form .ensures)
 
--- src/judge.rt:111:9
 header-of-requires : tie.Need-header-of-requires
 header-of-requires c κs = search needs
 
--- src/judge.rt:112:9
 judge-addresses-requires : tie.Need-judge-addresses-requires
 judge-addresses-requires c κs = search needs
 
 enum-told-2 : tie.Need-enum-told-2
 enum-told-2 c = search needs
 
--- src/judge.rt:114:9
 returns-3 : tie.Need-returns-3
 returns-3 c =
     let d = c .before in
@@ -69,14 +54,12 @@ returns-3 c =
     addresses-refused (a .head .now) (a .nodes .now) (a .work-len) (a .table-len) (a .prologue .now) (a .body .now) (a .epilogue .now) h p (d .judge-addresses .result) (c .match2 .keys2)
     (rw (e .header-of .ensures) at (d .judge-addresses .ensures))
 
--- src/judge.rt:116:9
 judge-offsets-requires : tie.Need-judge-offsets-requires
 judge-offsets-requires c κs = search needs
 
 enum-told-3 : tie.Need-enum-told-3
 enum-told-3 c = search needs
 
--- src/judge.rt:118:9
 returns-4 : tie.Need-returns-4
 returns-4 c =
     let o = c .before in
@@ -94,7 +77,6 @@ returns-4 c =
     let q = rw (u .enum-told2 .given .1, e .header-of .ensures) at (d .judge-addresses .ensures) in
     offsets-refused (a .head .now) (a .nodes .now) (a .work-len) (a .table-len) (a .prologue .now) (a .body .now) (a .epilogue .now) h p q (o .judge-offsets .result) (c .match3 .keys2) (o .judge-offsets .ensures)
 
--- src/judge.rt:120:5
 judge-size-requires : tie.Need-judge-size-requires
 judge-size-requires c κs =
     let e = c .before .before .before .before .before .before in
@@ -108,7 +90,6 @@ judge-size-requires c κs =
     let p = rw (t .enum-told .given .1) at (f .judge-form .ensures) in
     rw (e .header-of .ensures, same-graph (a .head .now) (a .nodes .now) (a .work-len) (a .table-len) (a .prologue .now) (a .body .now) (a .epilogue .now) h p) (formed (a .head .now) (a .nodes .now) (a .work-len) (a .table-len) (a .prologue .now) (a .body .now) (a .epilogue .now) h p)
 
--- src/judge.rt:93:1
 returns-5 : tie.Need-returns-5
 returns-5 c =
     let z = c in

@@ -3,22 +3,13 @@ use Rattle.rules.specs.Answers.{first}
 use borrow.Author.Needs.{needs}
 use Rattle.code.proofs.judge.judge_addresses.Statement.{statement}
 use Rattle.code.proofs.judge.judge_addresses.Tie as tie
-use Rattle.code.proofs.judge.judge_addresses.Reads as reads
-use Rattle.code.proofs.judge.judge_addresses.Lts as lts
-use Rattle.checks.proofs.align.Reads as align-reads
-use Rattle.checks.proofs.bounds.Reads as bounds-reads
-use Rattle.checks.proofs.carry.Reads as carry-reads
-use Rattle.checks.proofs.windows.Reads as windows-reads
 
--- src/judge.rt:53:9
 windows-requires : tie.Need-windows-requires
 windows-requires c κs = search needs
 
--- src/judge.rt:54:22
 enum-known-window : tie.Need-enum-known-window
 enum-known-window c = search needs
 
--- src/judge.rt:55:9
 returns : tie.Need-returns
 unfolding first
 returns c =
@@ -30,15 +21,12 @@ returns c =
 enum-told : tie.Need-enum-told
 enum-told c = search needs
 
--- src/judge.rt:57:9
 align-requires : tie.Need-align-requires
 align-requires c κs = search needs
 
--- src/judge.rt:58:22
 enum-known-align : tie.Need-enum-known-align
 enum-known-align c = search needs
 
--- src/judge.rt:59:9
 returns-2 : tie.Need-returns-2
 unfolding first
 returns-2 c =
@@ -53,15 +41,12 @@ returns-2 c =
 enum-told-2 : tie.Need-enum-told-2
 enum-told-2 c = search needs
 
--- src/judge.rt:61:9
 bounds-requires : tie.Need-bounds-requires
 bounds-requires c κs = search needs
 
--- src/judge.rt:62:22
 enum-known-bounds : tie.Need-enum-known-bounds
 enum-known-bounds c = search needs
 
--- src/judge.rt:63:9
 returns-3 : tie.Need-returns-3
 unfolding first
 returns-3 c =
@@ -79,15 +64,12 @@ returns-3 c =
 enum-told-3 : tie.Need-enum-told-3
 enum-told-3 c = search needs
 
--- src/judge.rt:65:9
 carry-requires : tie.Need-carry-requires
 carry-requires c κs = search needs
 
--- src/judge.rt:66:22
 enum-known-carry : tie.Need-enum-known-carry
 enum-known-carry c = search needs
 
--- src/judge.rt:67:9
 returns-4 : tie.Need-returns-4
 unfolding first
 returns-4 c =
@@ -108,7 +90,6 @@ returns-4 c =
 enum-told-4 : tie.Need-enum-told-4
 enum-told-4 c = search needs
 
--- src/judge.rt:50:1
 returns-5 : tie.Need-returns-5
 unfolding first
 returns-5 c =

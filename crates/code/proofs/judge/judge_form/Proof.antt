@@ -2,50 +2,38 @@
 use borrow.Author.Needs.{needs}
 use Rattle.code.proofs.judge.judge_form.Statement.{statement}
 use Rattle.code.proofs.judge.judge_form.Tie as tie
-use Rattle.code.proofs.judge.judge_form.Reads as reads
-use Rattle.code.proofs.judge.judge_form.Lts as lts
-use Rattle.graph.proofs.check.Reads as check-reads
 
--- src/judge.rt:40:9
 check-requires : tie.Need-check-requires
 check-requires c κs = search needs
 
--- src/judge.rt:42:30
 enum-told : tie.Need-enum-told
 enum-told c = search needs
 
--- src/judge.rt:43:30
 enum-told-2 : tie.Need-enum-told-2
 enum-told-2 c = search needs
 
--- src/judge.rt:44:28
 enum-known-form : tie.Need-enum-known-form
 enum-known-form c = search needs
 
--- src/judge.rt:45:28
 enum-known-form-2 : tie.Need-enum-known-form-2
 enum-known-form-2 c = search needs
 
--- src/judge.rt:37:1
 returns : tie.Need-returns
 returns c =
     let g = c .before .before in
     rw (c .enum-told .given .1) at (g .check .ensures)
 
--- src/judge.rt:37:1
 returns-2 : tie.Need-returns-2
 returns-2 c =
     let g = c .before .before in
     rw (c .enum-told2 .given .1) at (g .check .ensures)
 
--- src/judge.rt:37:1
 returns-3 : tie.Need-returns-3
 returns-3 c =
     let f = c .before in
     let g = f .before .before in
     rw (f .form .given .1) at (g .check .ensures)
 
--- src/judge.rt:37:1
 returns-4 : tie.Need-returns-4
 returns-4 c =
     let f = c .before in

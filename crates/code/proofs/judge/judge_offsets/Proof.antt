@@ -1,9 +1,6 @@
 use Rattle.code.proofs.judge.judge_offsets.Statement.{statement}
 use Rattle.code.proofs.judge.judge_offsets.Tie as tie
-use Rattle.code.proofs.judge.judge_offsets.Reads as reads
-use Rattle.code.proofs.judge.judge_offsets.Lts as lts
 
--- src/judge.rt:72:1
 returns : tie.Need-returns
 returns c = ?
 

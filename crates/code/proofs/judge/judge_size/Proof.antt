@@ -5,22 +5,15 @@ use Rattle.code.proofs.JudgeLaws.{some-node, linked-root, long-refused,
 use borrow.Author.Needs.{needs}
 use Rattle.code.proofs.judge.judge_size.Statement.{statement}
 use Rattle.code.proofs.judge.judge_size.Tie as tie
-use Rattle.code.proofs.judge.judge_size.Reads as reads
-use Rattle.code.proofs.judge.judge_size.Lts as lts
-use Rattle.code.proofs.size.size.Reads as size-reads
-use Rattle.graph.proofs.left_inputs.Reads as left-inputs-reads
 
--- src/judge.rt:83:16
 left-inputs-requires : tie.Need-left-inputs-requires
 left-inputs-requires c κs = search needs
 
--- src/judge.rt:84:16
 sub-root : tie.Need-sub-root
 sub-root c =
     let s = c .before .before .before in
     some-node (graphIn (s .args .header) (s .args .nodes .now)) (s .pre)
 
--- src/judge.rt:85:9
 size-requires : tie.Need-size-requires
 size-requires c κs =
     let l = c .before .before in
@@ -28,13 +21,11 @@ size-requires c κs =
     let g = graphIn (s .args .header) (s .args .nodes .now) in
     (omega (arith, some-node g (s .pre), s .pre .most), rw (l .left-inputs .ensures) (linked-root g (s .pre)))
 
--- src/judge.rt:87:9
 returns : tie.Need-returns
 returns c =
     let z = c .before in
     long-refused _ _ (z .size .ensures) (c .if1 .taken)
 
--- src/judge.rt:79:1
 returns-2 : tie.Need-returns-2
 returns-2 c =
     let z = c .before in

@@ -8,28 +8,16 @@ use Rattle.code.proofs.ProgramLaws.{emitted-none, emitted-only, emitted
 use borrow.Author.Needs.{needs}
 use Rattle.code.proofs.programs.emit.Statement.{statement}
 use Rattle.code.proofs.programs.emit.Tie as tie
-use Rattle.code.proofs.programs.emit.Reads as reads
-use Rattle.code.proofs.programs.emit.Lts as lts
-use Rattle.code.proofs.counts.split_stream.Reads as split-stream-reads
-use Rattle.code.proofs.counts.width_bytes.Reads as width-bytes-reads
-use Rattle.code.proofs.sections.put_body.Reads as put-body-reads
-use Rattle.code.proofs.sections.put_epilogue.Reads as put-epilogue-reads
-use Rattle.code.proofs.sections.put_only.Reads as put-only-reads
-use Rattle.code.proofs.sections.put_prologue.Reads as put-prologue-reads
 
--- src/programs.rt:34:16
 sub-root : tie.Need-sub-root
 sub-root c = search needs
 
--- src/programs.rt:36:9
 split-stream-requires : tie.Need-split-stream-requires
 split-stream-requires c κs = search needs
 
--- src/programs.rt:40:12
 width-bytes-requires : tie.Need-width-bytes-requires
 width-bytes-requires c κs = search needs
 
--- src/programs.rt:47:9
 returns : tie.Need-returns
 returns c =
     let w = c .before .before in
@@ -41,15 +29,12 @@ returns c =
     (w .width-bytes .ensures) (v .split-stream .ensures .0) (v .split-stream .ensures .1) (a .prologue .now) (a .body .now) (a .epilogue .now)
     (c .if1 .taken)
 
--- src/programs.rt:50:13
 put-only-requires : tie.Need-put-only-requires
 put-only-requires c κs = search needs
 
--- src/programs.rt:52:9
 same-length : tie.Need-same-length
 same-length c = search needs
 
--- src/programs.rt:52:9
 returns-2 : tie.Need-returns-2
 returns-2 c =
     let o = c .before .before in
@@ -64,34 +49,27 @@ returns-2 c =
     (w .width-bytes .ensures) (v .split-stream .ensures .0) (v .split-stream .ensures .1) (a .prologue .now) (a .body .now) (a .epilogue .now)
     (i .if1 .left) (j .if2 .taken) (o .put-only .ensures)
 
--- src/programs.rt:54:9
 put-prologue-requires : tie.Need-put-prologue-requires
 put-prologue-requires c κs = search needs
 
--- src/programs.rt:55:9
 put-body-requires : tie.Need-put-body-requires
 put-body-requires c κs = search needs
 
--- src/programs.rt:56:9
 put-epilogue-requires : tie.Need-put-epilogue-requires
 put-epilogue-requires c κs =
     let v = c .before .before .before .before .before .before .before .before .before .before .before .before .before .before .before .before in
     let s = v .before .before .before .before .before .before .before in
     (s .pre .0 .2, search needs, rw (v .split-stream .ensures .1) (rest-most (s .args .header .width) (s .args .header .elements) (s .args .header .store .0)))
 
--- src/programs.rt:20:1
 same-length-2 : tie.Need-same-length-2
 same-length-2 c = search needs
 
--- src/programs.rt:20:1
 same-length-3 : tie.Need-same-length-3
 same-length-3 c = search needs
 
--- src/programs.rt:20:1
 same-length-4 : tie.Need-same-length-4
 same-length-4 c = search needs
 
--- src/programs.rt:20:1
 returns-3 : tie.Need-returns-3
 returns-3 c =
     let q = c .before .before in

@@ -3,16 +3,10 @@ use Rattle.code.proofs.SectionLaws.{tree-room, blocks-written}
 use borrow.Author.Needs.{needs}
 use Rattle.code.proofs.sections.put_blocks.Statement.{statement}
 use Rattle.code.proofs.sections.put_blocks.Tie as tie
-use Rattle.code.proofs.sections.put_blocks.Reads as reads
-use Rattle.code.proofs.sections.put_blocks.Lts as lts
-use Rattle.code.proofs.expressions.gen_expr.Reads as gen-expr-reads
-use Rattle.code.proofs.instructions.put_load.Reads as put-load-reads
 
--- src/sections.rt:34:9
 gen-expr-requires : tie.Need-gen-expr-requires
 gen-expr-requires c κs = search needs
 
--- src/sections.rt:39:5
 put-load-requires : tie.Need-put-load-requires
 put-load-requires c κs =
     let g = c .before .before .before in
@@ -20,11 +14,9 @@ put-load-requires c κs =
     let q = tree-room (s .pre .0) (s .pre .1) (g .gen-expr .ensures) in
     ((q .1, q .2), (search needs, s .pre .0 .address, search needs))
 
--- src/sections.rt:29:1
 same-length : tie.Need-same-length
 same-length c = search needs
 
--- src/sections.rt:29:1
 returns : tie.Need-returns
 returns c =
     let l = c .before .before in

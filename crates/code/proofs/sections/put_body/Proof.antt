@@ -4,22 +4,15 @@ use Rattle.code.proofs.SectionLaws.{tree-room, body-written, no-body}
 use borrow.Author.Needs.{needs}
 use Rattle.code.proofs.sections.put_body.Statement.{statement}
 use Rattle.code.proofs.sections.put_body.Tie as tie
-use Rattle.code.proofs.sections.put_body.Reads as reads
-use Rattle.code.proofs.sections.put_body.Lts as lts
-use Rattle.code.proofs.expressions.gen_expr.Reads as gen-expr-reads
-use Rattle.code.proofs.instructions.put_store.Reads as put-store-reads
 
--- src/sections.rt:91:9
 returns : tie.Need-returns
 returns c =
     let s = c .before .before .before .before in
     no-body (s .pre .0) (s .args .section .now) _ (c .if1 .taken)
 
--- src/sections.rt:94:9
 gen-expr-requires : tie.Need-gen-expr-requires
 gen-expr-requires c κs = search needs
 
--- src/sections.rt:95:15
 sub-new : tie.Need-sub-new
 sub-new c =
     let g = c .before .before in
@@ -27,7 +20,6 @@ sub-new c =
     let q = tree-room (s .pre .0) (s .pre .1) (g .gen-expr .ensures) in
     omega (arith, q .0)
 
--- src/sections.rt:96:5
 put-store-requires : tie.Need-put-store-requires
 put-store-requires c κs =
     let g = c .before .before .before in
@@ -35,11 +27,9 @@ put-store-requires c κs =
     let q = tree-room (s .pre .0) (s .pre .1) (g .gen-expr .ensures) in
     (q .1, q .2, omega (arith, q .1), s .pre .0 .address)
 
--- src/sections.rt:79:1
 same-length : tie.Need-same-length
 same-length c = search needs
 
--- src/sections.rt:79:1
 returns-2 : tie.Need-returns-2
 returns-2 c =
     let w = c .before .before in

@@ -1,5 +1,4 @@
 -- The old block and the new one are in the two registers before the splice.
-use Prim.Native.Nat.{ℕ}
 use mathlib.Core.Path.{ap}
 use native.Mathlib.Nat.{mul-le-mul}
 use native.Mathlib.Omega.{arith}
@@ -11,24 +10,15 @@ use Rattle.code.proofs.SectionLaws.{blocks-room, epilogue-written, no-e
 use borrow.Author.Needs.{needs}
 use Rattle.code.proofs.sections.put_epilogue.Statement.{statement}
 use Rattle.code.proofs.sections.put_epilogue.Tie as tie
-use Rattle.code.proofs.sections.put_epilogue.Reads as reads
-use Rattle.code.proofs.sections.put_epilogue.Lts as lts
-use Rattle.code.proofs.counts.byte_of_element.Reads as byte-of-element-reads
-use Rattle.code.proofs.instructions.put_splice.Reads as put-splice-reads
-use Rattle.code.proofs.instructions.put_store.Reads as put-store-reads
-use Rattle.code.proofs.sections.put_blocks.Reads as put-blocks-reads
 
--- src/sections.rt:113:9
 returns : tie.Need-returns
 returns c =
     let s = c .before .before .before .before in
     no-epilogue (s .pre .0) (s .args .section .now) _ _ (c .if1 .taken)
 
--- src/sections.rt:115:9
 put-blocks-requires : tie.Need-put-blocks-requires
 put-blocks-requires c κs = search needs
 
--- src/sections.rt:116:15
 sub-old : tie.Need-sub-old
 sub-old c =
     let b = c .before .before in
@@ -36,7 +26,6 @@ sub-old c =
     let q = blocks-room (s .pre .0) (s .pre .1) (b .put-blocks .ensures) in
     omega (arith, q .0)
 
--- src/sections.rt:117:15
 sub-new : tie.Need-sub-new
 sub-new c =
     let b = c .before .before in
@@ -44,11 +33,9 @@ sub-new c =
     let q = blocks-room (s .pre .0) (s .pre .1) (b .put-blocks .ensures) in
     omega (arith, q .0)
 
--- src/sections.rt:118:53
 byte-of-element-requires : tie.Need-byte-of-element-requires
 byte-of-element-requires c κs = search needs
 
--- src/sections.rt:118:9
 put-splice-requires : tie.Need-put-splice-requires
 put-splice-requires c κs =
     let l = c in
@@ -59,7 +46,6 @@ put-splice-requires c κs =
     let m = mul-le-mul (s .pre .2) (width-most (s .args .width)) in
     ((omega (arith, q .1), q .2), (omega (arith, q .1), omega (arith, q .1), omega arith))
 
--- src/sections.rt:119:5
 put-store-requires : tie.Need-put-store-requires
 put-store-requires c κs =
     let p = c .before .before .before in
@@ -69,11 +55,9 @@ put-store-requires c κs =
     let e = p .put-splice .ensures in
     (omega (arith, q .1, e .rows), omega (arith, q .2, written-length e), omega (arith, q .1), s .pre .0 .address)
 
--- src/sections.rt:100:1
 same-length : tie.Need-same-length
 same-length c = search needs
 
--- src/sections.rt:100:1
 returns-2 : tie.Need-returns-2
 returns-2 c =
     let w = c .before .before in

@@ -34,148 +34,123 @@ size-calls t = (
   cap-reads.Learnt,
 )
 
--- src/size.rt:25:9
 size-node-at-requires : (t : ℕ) → size-lts.Need-node-at-requires (size-calls t) (size-at t) size.Post
 size-node-at-requires t c κs = search needs
 
--- src/size.rt:27:26
 size-enum-told : (t : ℕ) → size-lts.Need-enum-told (size-calls t) (size-at t) size.Post
 size-enum-told t c = c .match .keys1
 
--- src/size.rt:28:27
 size-enum-told-2 : (t : ℕ) → size-lts.Need-enum-told-2 (size-calls t) (size-at t) size.Post
 size-enum-told-2 t c = c .match .keys2
 
--- src/size.rt:30:22
 size-enum-told-3 : (t : ℕ) → size-lts.Need-enum-told-3 (size-calls t) (size-at t) size.Post
 size-enum-told-3 t c = c .match .keys3
 
--- src/size.rt:31:25
-size-element-copy-out-input : (t : ℕ) → size-lts.Need-element-copy-out-input (size-calls t) (size-at t) size.Post
-size-element-copy-out-input t c = omega arith
+size-element-copy-out-left-input : (t : ℕ) → size-lts.Need-element-copy-out-left-input (size-calls t) (size-at t) size.Post
+size-element-copy-out-left-input t c = omega arith
 
--- src/size.rt:32:17
+size-sub-right-input : (t : ℕ) → size-lts.Need-sub-right-input (size-calls t) (size-at t) size.Post
+size-sub-right-input t c =
+    let n = c .before in
+    let m = n .before .before in
+    let s = m .before .before in
+    let a = s .args in
+    omega (arith, left-falls (a .nodes .now) (a .left .now) (a .k) (s .pre .1 .1) _ (sym (m .node-at .ensures) ∙ n .enum-told3 .given .1))
+
 size-size-requires : (t : ℕ) → size-lts.Need-size-requires (size-calls t) (size-at t) size.Post
 size-size-requires t c κs =
     let n = c .before in
-    let s = n .before .before .before .before in
+    let m = n .before .before in
+    let s = m .before .before in
     let a = s .args in
-    let to = s .pre .1 .1 in
-    let is = sym (n .before .before .node-at .ensures) ∙ n .enum-told3 .given .1 in
-    let h = left-falls (a .nodes .now) (a .left .now) (a .k) to _ is in
-    (omega arith, (omega arith, linked-below (a .nodes .now) (a .left .now) (a .k) _ (omega arith) to))
+    let h = left-falls (a .nodes .now) (a .left .now) (a .k) (s .pre .1 .1) _ (sym (m .node-at .ensures) ∙ n .enum-told3 .given .1) in
+    (omega arith, (omega arith, linked-below (a .nodes .now) (a .left .now) (a .k) _ (omega arith) (s .pre .1 .1)))
 
--- src/size.rt:33:25
-size-sub-right : (t : ℕ) → size-lts.Need-sub-right (size-calls t) (size-at t) size.Post
-size-sub-right t c =
-    let n = c .before .before in
-    let s = n .before .before .before .before in
-    let a = s .args in
-    let to = s .pre .1 .1 in
-    let is = sym (n .before .before .node-at .ensures) ∙ n .enum-told3 .given .1 in
-    let h = left-falls (a .nodes .now) (a .left .now) (a .k) to _ is in
-    omega arith
-
--- src/size.rt:34:17
 size-size-requires-2 : (t : ℕ) → size-lts.Need-size-requires-2 (size-calls t) (size-at t) size.Post
 size-size-requires-2 t c κs =
     let n = c .before .before in
-    let s = n .before .before .before .before in
+    let m = n .before .before in
+    let s = m .before .before in
     let a = s .args in
-    let to = s .pre .1 .1 in
-    let is = sym (n .before .before .node-at .ensures) ∙ n .enum-told3 .given .1 in
-    let h = left-falls (a .nodes .now) (a .left .now) (a .k) to _ is in
-    (omega arith, (omega arith, linked-below (a .nodes .now) (a .left .now) (a .k) _ (omega arith) to))
+    let h = left-falls (a .nodes .now) (a .left .now) (a .k) (s .pre .1 .1) _ (sym (m .node-at .ensures) ∙ n .enum-told3 .given .1) in
+    (omega arith, (omega arith, linked-below (a .nodes .now) (a .left .now) (a .k) _ (omega arith) (s .pre .1 .1)))
 
--- src/size.rt:35:24
 size-add-both : (t : ℕ) → size-lts.Need-add-both (size-calls t) (size-at t) size.Post
 size-add-both t c =
-    omega (arith, capped-most _ _ (c .before .size .ensures), capped-most _ _ (c .size2 .ensures))
+    let o = c .before in
+    omega (arith, capped-most _ _ (o .size .ensures), capped-most _ _ (c .size2 .ensures))
 
--- src/size.rt:35:24
 size-add-both-2 : (t : ℕ) → size-lts.Need-add-both-2 (size-calls t) (size-at t) size.Post
 size-add-both-2 t c =
-    omega (arith, capped-most _ _ (c .before .size .ensures), capped-most _ _ (c .size2 .ensures))
+    let o = c .before in
+    omega (arith, capped-most _ _ (o .size .ensures), capped-most _ _ (c .size2 .ensures))
 
--- src/size.rt:36:13
 size-cap-requires : (t : ℕ) → size-lts.Need-cap-requires (size-calls t) (size-at t) size.Post
 size-cap-requires t c κs = search needs
 
--- src/size.rt:39:25
 size-enum-told-4 : (t : ℕ) → size-lts.Need-enum-told-4 (size-calls t) (size-at t) size.Post
 size-enum-told-4 t c = c .match .keys4
 
--- src/size.rt:39:25
 size-sub-child : (t : ℕ) → size-lts.Need-sub-child (size-calls t) (size-at t) size.Post
 size-sub-child t c =
-    let s = c .before .before .before .before in
+    let n = c in
+    let m = n .before .before in
+    let s = m .before .before in
     let a = s .args in
-    let to = s .pre .1 .1 in
-    let is = sym (c .before .before .node-at .ensures) ∙ c .enum-told4 .given .1 in
-    let h = some-child (a .nodes .now) (a .left .now) (a .k) to _ is in
-    omega arith
+    some-child (a .nodes .now) (a .left .now) (a .k) (s .pre .1 .1) _ (sym (m .node-at .ensures) ∙ n .enum-told4 .given .1)
 
--- src/size.rt:40:17
 size-size-requires-3 : (t : ℕ) → size-lts.Need-size-requires-3 (size-calls t) (size-at t) size.Post
 size-size-requires-3 t c κs =
-    let s = c .before .before .before .before in
+    let n = c in
+    let m = n .before .before in
+    let s = m .before .before in
     let a = s .args in
-    let to = s .pre .1 .1 in
-    let is = sym (c .before .before .node-at .ensures) ∙ c .enum-told4 .given .1 in
-    let h = some-child (a .nodes .now) (a .left .now) (a .k) to _ is in
-    (omega arith, (omega arith, linked-below (a .nodes .now) (a .left .now) (a .k) _ (omega arith) to))
+    let h = some-child (a .nodes .now) (a .left .now) (a .k) (s .pre .1 .1) _ (sym (m .node-at .ensures) ∙ n .enum-told4 .given .1) in
+    (omega arith, (omega arith, linked-below (a .nodes .now) (a .left .now) (a .k) _ (omega arith) (s .pre .1 .1)))
 
--- src/size.rt:41:24
 size-add-both-3 : (t : ℕ) → size-lts.Need-add-both-3 (size-calls t) (size-at t) size.Post
-size-add-both-3 t c =
-    omega (arith, capped-most _ _ (c .size3 .ensures))
+size-add-both-3 t c = omega (arith, capped-most _ _ (c .size3 .ensures))
 
--- src/size.rt:41:24
 size-add-both-4 : (t : ℕ) → size-lts.Need-add-both-4 (size-calls t) (size-at t) size.Post
-size-add-both-4 t c =
-    omega (arith, capped-most _ _ (c .size3 .ensures))
+size-add-both-4 t c = omega (arith, capped-most _ _ (c .size3 .ensures))
 
--- src/size.rt:42:13
 size-cap-requires-2 : (t : ℕ) → size-lts.Need-cap-requires-2 (size-calls t) (size-at t) size.Post
 size-cap-requires-2 t c κs = search needs
 
--- src/size.rt:21:1
 size-returns : (t : ℕ) → size-lts.Need-returns (size-calls t) (size-at t) size.Post
 size-returns t c =
-    let s = c .before .before .before .before in
+    let n = c in
+    let m = n .before .before in
+    let s = m .before .before in
     let a = s .args in
-    let to = s .pre .1 .1 in
-    let is = sym (c .before .before .node-at .ensures) ∙ c .enum-told .given .1 in
-    load-size (a .nodes .now) (a .left .now) (a .k) to _ is
+    load-size (a .nodes .now) (a .left .now) (a .k) (s .pre .1 .1) _ (sym (m .node-at .ensures) ∙ n .enum-told .given .1)
 
--- src/size.rt:21:1
 size-returns-2 : (t : ℕ) → size-lts.Need-returns-2 (size-calls t) (size-at t) size.Post
 size-returns-2 t c =
-    let s = c .before .before .before .before in
+    let n = c in
+    let m = n .before .before in
+    let s = m .before .before in
     let a = s .args in
-    let to = s .pre .1 .1 in
-    let is = sym (c .before .before .node-at .ensures) ∙ c .enum-told2 .given .1 in
-    splat-size (a .nodes .now) (a .left .now) (a .k) to _ is
+    splat-size (a .nodes .now) (a .left .now) (a .k) (s .pre .1 .1) _ (sym (m .node-at .ensures) ∙ n .enum-told2 .given .1)
 
--- src/size.rt:21:1
 size-returns-3 : (t : ℕ) → size-lts.Need-returns-3 (size-calls t) (size-at t) size.Post
 size-returns-3 t c =
-    let n = c .before .before .before .before in
-    let s = n .before .before .before .before in
+    let u = c .before in
+    let o = u .before in
+    let n = o .before .before in
+    let m = n .before .before in
+    let s = m .before .before in
     let a = s .args in
-    let to = s .pre .1 .1 in
-    let is = sym (n .before .before .node-at .ensures) ∙ n .enum-told3 .given .1 in
-    c .cap .ensures ∙ op-size (a .nodes .now) (a .left .now) (a .k) to _ is (c .before .before .size .ensures) (c .before .size2 .ensures)
+    c .cap .ensures ∙ op-size (a .nodes .now) (a .left .now) (a .k) (s .pre .1 .1) _ (sym (m .node-at .ensures) ∙ n .enum-told3 .given .1) (o .size .ensures) (u .size2 .ensures)
 
--- src/size.rt:21:1
 size-returns-4 : (t : ℕ) → size-lts.Need-returns-4 (size-calls t) (size-at t) size.Post
 size-returns-4 t c =
-    let n = c .before .before in
-    let s = n .before .before .before .before in
+    let u = c .before in
+    let n = u .before in
+    let m = n .before .before in
+    let s = m .before .before in
     let a = s .args in
-    let to = s .pre .1 .1 in
-    let is = sym (n .before .before .node-at .ensures) ∙ n .enum-told4 .given .1 in
-    c .cap2 .ensures ∙ shift-size (a .nodes .now) (a .left .now) (a .k) to _ is (c .before .size3 .ensures)
+    c .cap2 .ensures ∙ shift-size (a .nodes .now) (a .left .now) (a .k) (s .pre .1 .1) _ (sym (m .node-at .ensures) ∙ n .enum-told4 .given .1) (u .size3 .ensures)
 
 pub +size-spec : {M : Type 1} → statement M
 +size-spec = close μ-size λ t. size-lts.spec (size-calls t)
@@ -185,9 +160,9 @@ pub +size-spec : {M : Type 1} → statement M
     (size-enum-told t)
     (size-enum-told-2 t)
     (size-enum-told-3 t)
-    (size-element-copy-out-input t)
+    (size-element-copy-out-left-input t)
+    (size-sub-right-input t)
     (size-size-requires t)
-    (size-sub-right t)
     (size-size-requires-2 t)
     (size-add-both t)
     (size-add-both-2 t)

@@ -3,15 +3,11 @@ use native.Mathlib.Omega.{arith}
 use Rattle.code.specs.Writing.{capped}
 use Rattle.code.proofs.size.cap.Statement.{statement}
 use Rattle.code.proofs.size.cap.Tie as tie
-use Rattle.code.proofs.size.cap.Reads as reads
-use Rattle.code.proofs.size.cap.Lts as lts
 
--- src/size.rt:15:1
 returns : tie.Need-returns
 unfolding capped
 returns c = omega arith
 
--- src/size.rt:15:1
 returns-2 : tie.Need-returns-2
 unfolding capped
 returns-2 c = omega arith
