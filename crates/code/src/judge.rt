@@ -3,6 +3,7 @@ use crate::size::size;
 use checks::Found;
 use graph::Header;
 use rules::answers::CheckAnswer;
+use rules::answers::OffsetAnswer;
 use rules::answers::TranslateAnswer;
 ghost use mathlib.Core.Path.{_≡_};
 ghost use mathlib.Core.Bool.{_||_};
@@ -69,10 +70,18 @@ fn judge_addresses(header: Header, nodes: &[u64], work_len: u64, table_len: u64)
     TranslateAnswer::Done
 }
 
+// OFFSET, and before it what judge_form finds too.
 fn judge_offsets(head: &[u64], nodes: &[u64]) -> TranslateAnswer
     ensures { λ r. ⌜ ofTranslate r ≡ offsetChecking vectorBytes (now (head .entry)) (now (nodes .entry)) ⌝ }
 {
-    TranslateAnswer::Done
+    let offset = offsets::offset_check(head, nodes);
+    match offset {
+        OffsetAnswer::Done => TranslateAnswer::Done,
+        OffsetAnswer::Room => TranslateAnswer::Room,
+        OffsetAnswer::Range(place) => TranslateAnswer::Range(place),
+        OffsetAnswer::Shape(place) => TranslateAnswer::Shape(place),
+        OffsetAnswer::Offset(place) => TranslateAnswer::Offset(place),
+    }
 }
 
 // LONG, of the last node's tree.
