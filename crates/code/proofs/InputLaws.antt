@@ -1,0 +1,48 @@
+-- What the links say of one node: its inputs have lower numbers, and its tree is made of their trees.
+use Prim.Native.Nat.{ℕ, _+_, _-_, _≤_, _<_}
+use native.Mathlib.Omega.{arith}
+use mathlib.Core.Path.{_≡_}
+use mathlib.Core.List.{List}
+use lib.ListN.{getD}
+use Rattle.rules.specs.Trees.{Tree, load, splat, op, shift, nodeAt, treeAt}
+use Rattle.rules.specs.declared.nodes.LoadAt.{LoadAt}
+use Rattle.rules.specs.declared.nodes.ShiftBy.{ShiftBy}
+use Rattle.rules.specs.declared.nodes.Node.{Node}
+use Rattle.rules.specs.declared.nodes.Node.the-variants as Node
+use Rattle.graph.specs.Links.{LinkedAt, Linked}
+
+module _ (nodes left : List ℕ) where
+  -- the tree at a node
+  abbrev pub tree : ℕ → Tree
+  tree j = treeAt (nodeAt nodes) j
+
+  -- the first k nodes are linked
+  abbrev pub LinkedTo : ℕ → Type 0
+  LinkedTo k = Linked (nodeAt nodes) (λ (j : ℕ). getD left j 0) k
+
+  pub linked-below : (k j : ℕ) → j ≤ k → LinkedTo (k + 1) → LinkedTo (j + 1)
+  unfolding Linked
+  linked-below k j h to i l = to i (omega arith)
+
+  module _ (k : ℕ) (to : LinkedTo (k + 1)) where
+    linked-here : (n : Node) → nodeAt nodes k ≡ n → LinkedAt (nodeAt nodes) (λ (j : ℕ). getD left j 0) k n
+    unfolding Linked
+    linked-here n e = rw e at (to k (omega arith))
+
+    pub load-tree : (a : LoadAt) → nodeAt nodes k ≡ Node.Load a → tree k ≡ load (a .window) (a .address .0)
+    load-tree a is = linked-here (Node.Load a) is
+
+    pub splat-tree : (v : ℕ) → nodeAt nodes k ≡ Node.Splat v → tree k ≡ splat v
+    splat-tree v is = linked-here (Node.Splat v) is
+
+    pub op-tree : (o : ℕ) → nodeAt nodes k ≡ Node.Op o → tree k ≡ op o (tree (getD left k 0)) (tree (k - 1))
+    op-tree o is = linked-here (Node.Op o) is .1
+
+    pub left-falls : (o : ℕ) → nodeAt nodes k ≡ Node.Op o → getD left k 0 < k
+    left-falls o is = linked-here (Node.Op o) is .0
+
+    pub shift-tree : (s : ShiftBy) → nodeAt nodes k ≡ Node.Shift s → tree k ≡ shift (s .«from» .0) (s .to .0) (tree (k - 1))
+    shift-tree s is = linked-here (Node.Shift s) is .1
+
+    pub some-child : (s : ShiftBy) → nodeAt nodes k ≡ Node.Shift s → 0 < k
+    some-child s is = linked-here (Node.Shift s) is .0

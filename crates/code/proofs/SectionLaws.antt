@@ -1,0 +1,113 @@
+-- A section is the code of the tree, the old block and what follows: each list as it was written, one after the other.
+use Prim.Native.Nat.{ℕ, zero, suc, _+_, _*_, _-_, _≤_, _<_}
+use native.Mathlib.Nat.{zero-add}
+use native.Mathlib.Omega.{arith}
+use mathlib.Core.Path.{_≡_, refl, _∙_}
+use mathlib.Core.List.{List, [], _∷_, _++_, append-assoc}
+use lib.ListN.{length-append}
+use Rattle.rules.specs.Limits.{vectorBytes, sectionMost}
+use Rattle.rules.specs.Trees.{Tree, nodeAt, treeAt}
+use Rattle.rules.specs.Offsets.{storeOffset}
+use Rattle.rules.specs.Vectors.{blockZero, held}
+use Rattle.rules.specs.Machine.{Load, Splice, Store}
+use Rattle.rules.specs.Code.{G, code, new, oldBlock, onlySection, prologueSection, bodySection, bodyOf, epilogueSection, epilogueOf}
+use Rattle.rules.specs.declared.program.Instruction.{Instruction}
+use Rattle.theory.proofs.Coded.{size-pos, length-code}
+use Rattle.code.specs.Writing.{Written, Roomy, Root, newAndOld}
+use Rattle.code.proofs.WritingLaws.{written-then, written-length, written-none}
+use Rattle.code.proofs.ExpressionLaws.{code-rows}
+
+-- the block at address 0, as the code names it
+abbrev blockNumber : ℕ
+blockNumber = 134217728
+
+module _ {nodes left : List ℕ} {root S : ℕ} (r : Root nodes left root S) where
+  abbrev t : Tree
+  t = treeAt (nodeAt nodes) root
+
+  -- what is free after the tree's code, and how it goes on
+  module _ {before one : List ℕ} {old : ℕ} (room : Roomy before) (w : Written before one 0 old (code vectorBytes t blockNumber 0)) where
+    tree-end : old ≡ G t
+    tree-end = code-rows t blockNumber w ∙ zero-add (G t)
+
+    pub tree-room : (0 < old) × (old < sectionMost) × Roomy one
+    tree-room =
+        let e = tree-end in
+        (omega (arith, size-pos t), omega (arith, r .short), omega (arith, room, written-length w))
+
+    pub blocks-written : {after : List ℕ} {next : ℕ} → Written one after old next (Load old 0 (S + vectorBytes * blockNumber) ∷ [])
+        → Written before after 0 next (newAndOld S t)
+    unfolding blockZero
+    blocks-written v =
+        rw tree-end at (written-then w v)
+
+    pub body-written : {after : List ℕ} {next : ℕ} (full : ℕ) → 2 ≤ full
+        → Written one after old next (Store (old - 1) (held vectorBytes S) ∷ [])
+        → Written before after 0 next (bodyOf vectorBytes S t full)
+    unfolding bodySection blockZero
+    body-written zero h v = absurd (omega arith)
+    body-written (suc zero) h v = absurd (omega arith)
+    body-written (suc (suc full)) h v =
+        rw tree-end at (written-then w v)
+
+  pub no-body : (section : List ℕ) (full : ℕ) → full < 2 → Written section section 0 0 (bodyOf vectorBytes S t full)
+  no-body section zero h = written-none section 0
+  no-body section (suc zero) h = written-none section 0
+  no-body section (suc (suc full)) h = absurd (omega arith)
+
+  -- what is free after the old block, and how it goes on
+  module _ {before one : List ℕ} {first : ℕ} (room : Roomy before)
+      (w : Written before one 0 first (newAndOld S t)) where
+    first-row : first ≡ G t + 1
+    first-row =
+        let n = length-append (new vectorBytes S t) (oldBlock vectorBytes S t (G t) ∷ []) in
+        omega (arith, w .rows, n, length-code vectorBytes t (blockZero vectorBytes) 0)
+
+    pub blocks-room : (2 ≤ first) × (first + 3 ≤ sectionMost) × Roomy one
+    blocks-room =
+        let e = first-row in
+        (omega (arith, size-pos t), omega (arith, r .short), omega (arith, room, written-length w))
+
+    then : {after : List ℕ} {next : ℕ} (is : List Instruction) → Written one after first next is
+        → Written before after 0 next (new vectorBytes S t ++ (oldBlock vectorBytes S t (G t) ∷ is))
+    then is v = rw append-assoc at (written-then w v)
+
+    module _ {two : List ℕ} {last c : ℕ} (at-c : c ≡ storeOffset vectorBytes S) where
+      pub prologue-written : {after : List ℕ} {next : ℕ}
+          → Written one two first last (Splice first (first - 1) (first - 2) c ∷ [])
+          → Written two after last next (Store first (held vectorBytes S) ∷ [])
+          → Written before after 0 next (prologueSection vectorBytes S t)
+      unfolding prologueSection
+      prologue-written p q =
+          let f = first-row in
+          let a : first - 1 ≡ G t = omega arith in
+          let b : first - 2 ≡ G t - 1 = omega arith in
+          rw (a, b, at-c, f) at (then _ (written-then p q))
+
+      pub only-written : (D n : ℕ) {three after : List ℕ} {second next : ℕ}
+          → Written one two first second (Splice first (first - 1) (first - 2) c ∷ [])
+          → Written two three second last (Splice second first (first - 1) (c + n * D) ∷ [])
+          → Written three after last next (Store second (held vectorBytes S) ∷ [])
+          → Written before after 0 next (onlySection vectorBytes S t D n)
+      unfolding onlySection
+      only-written D n {second = second} p q s =
+          let f = first-row in
+          let a : first - 1 ≡ G t = omega arith in
+          let b : first - 2 ≡ G t - 1 = omega arith in
+          let e : second ≡ G t + 2 = omega (arith, p .rows) in
+          rw (a, b, at-c, e, f) at (then _ (written-then p (written-then q s)))
+
+    pub epilogue-written : (D e : ℕ) → (e ≡ 0 → ⊥) → {two after : List ℕ} {last next : ℕ}
+        → Written one two first last (Splice first (first - 2) (first - 1) (e * D) ∷ [])
+        → Written two after last next (Store first (held vectorBytes S) ∷ [])
+        → Written before after 0 next (epilogueOf vectorBytes D S t e)
+    unfolding epilogueSection
+    epilogue-written D zero h p q = absurd (h refl)
+    epilogue-written D (suc e) h p q =
+        let f = first-row in
+        let a : first - 1 ≡ G t = omega arith in
+        let b : first - 2 ≡ G t - 1 = omega arith in
+        rw (a, b, f) at (then _ (written-then p q))
+
+  pub no-epilogue : (section : List ℕ) (D e : ℕ) → e ≡ 0 → Written section section 0 0 (epilogueOf vectorBytes D S t e)
+  no-epilogue section D e h = rw h (written-none section 0)

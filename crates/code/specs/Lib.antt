@@ -1,0 +1,3 @@
+pub mod Writing
+pub mod Emitting
+pub mod Judging
