@@ -1,7 +1,12 @@
 //! The machine a careful Rust programmer would ship, for the benchmark: safe code, the element's width chosen once a run,
 //! lanes as typed arrays, registers as a local array, nothing allocated. It decodes each row when it comes to it.
 
+use crate::calls::{Call, Calls, INDEPENDENT};
 use crate::{Answer, Head, Row, DONE, FAULT, OUT, ROOM, WINDOW};
+
+/// What is written carefully, in the place of the independent calls.
+pub const CALLS: Calls = Calls { run, ..INDEPENDENT };
+pub const WRITTEN: &[Call] = &[Call::Run];
 
 type Vector = [u8; 16];
 

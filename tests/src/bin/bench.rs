@@ -6,10 +6,12 @@
 //!     bench --independent  the tests' independent machine in the library's place
 
 use outside::board::library;
+use outside::calls::INDEPENDENT;
 use outside::loops::printed;
 use outside::machine::{self, Document};
-use outside::programs::{load, op, pair, splat, splice, store};
 use outside::random::Random;
+use outside::rows::{load, op, pair, splat, splice, store};
+use outside::translate::Translating;
 use outside::{careful, Answer, Head, Row, Run, DONE};
 use std::hint::black_box;
 use std::process::ExitCode;
@@ -113,7 +115,7 @@ fn kinds() -> Vec<(&'static str, u64, Measure)> {
 fn compare(names: [&str; 2], machines: [Run; 2]) {
     let mut kinds = kinds();
     let made = printed(4096, 0x8006);
-    let translated = made.translated();
+    let translated = Document::translated(&made);
     let mut whole = Measure::new(Program::new(made.d, translated.f, &translated.sections), 50);
 
     let mut random = Random::new(1);
@@ -142,17 +144,17 @@ fn compare(names: [&str; 2], machines: [Run; 2]) {
 
 fn main() -> ExitCode {
     let arguments: Vec<String> = std::env::args().skip(1).collect();
-    let (name, machine) = match arguments.iter().map(String::as_str).collect::<Vec<_>>()[..] {
+    let (name, calls) = match arguments.iter().map(String::as_str).collect::<Vec<_>>()[..] {
         [] => ("library", library()),
-        ["--independent"] => ("independent", Some(machine::run::<Document> as Run)),
+        ["--independent"] => ("independent", Some(INDEPENDENT)),
         _ => {
             eprintln!("bench [--independent]");
             return ExitCode::from(2);
         }
     };
-    match machine {
-        Some(machine) => {
-            compare([name, "Rust"], [machine, careful::run]);
+    match calls {
+        Some(calls) => {
+            compare([name, "Rust"], [calls.run, careful::run]);
             ExitCode::SUCCESS
         }
         None => {
