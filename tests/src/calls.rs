@@ -30,16 +30,8 @@ pub enum Call {
     Run,
 }
 
-pub const ALL: [Call; 8] = [
-    Call::Read,
-    Call::Check,
-    Call::OffsetCheck,
-    Call::Plain,
-    Call::Place,
-    Call::Translate,
-    Call::Plan,
-    Call::Run,
-];
+pub const ALL: [Call; 8] =
+    [Call::Read, Call::Check, Call::OffsetCheck, Call::Plain, Call::Place, Call::Translate, Call::Plan, Call::Run];
 
 /// text, head, nodes
 pub type Read = fn(&[u8], &mut [u64], &mut [u64]) -> Answer;

@@ -2,11 +2,11 @@
 //! lanes as typed arrays, registers as a local array, nothing allocated. It decodes each row when it comes to it.
 
 use crate::calls::{Call, Calls, INDEPENDENT};
-use crate::{Answer, Head, Row, DONE, FAULT, OUT, ROOM, WINDOW};
+use crate::{careful_loop, careful_sheet, Answer, Head, Row, DONE, FAULT, OUT, ROOM, WINDOW};
 
 /// What is written carefully, in the place of the independent calls.
-pub const CALLS: Calls = Calls { run, ..INDEPENDENT };
-pub const WRITTEN: &[Call] = &[Call::Run];
+pub const CALLS: Calls = Calls { read: careful_sheet::read, plain: careful_loop::plain, run, ..INDEPENDENT };
+pub const WRITTEN: &[Call] = &[Call::Read, Call::Plain, Call::Run];
 
 type Vector = [u8; 16];
 

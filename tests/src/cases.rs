@@ -129,8 +129,7 @@ pub struct Case {
 
 impl Case {
     pub fn read(text: &[u8], head: usize, nodes: usize) -> Case {
-        let tables =
-            Tables { text: Lent::new(text), head: Lent::junk(head), nodes: Lent::junk(nodes), ..Tables::default() };
+        let tables = Tables { text: Lent::new(text), head: Lent::junk(head), nodes: Lent::junk(nodes), ..Tables::default() };
         Case { calls: &[Call::Read], rule: 0, lengths: [0; 2], budget: Budget::Steps(0), tables }
     }
 
@@ -155,8 +154,7 @@ impl Case {
     pub fn run(random: &mut Random, program: &Program) -> Case {
         let Head { d, f, prologue, body, epilogue } = program.head;
         let sections = program.sections.each_ref().map(|rows| Lent::new(rows));
-        let mut tables =
-            Tables { program: Lent::new(&[d, f, prologue, body, epilogue]), sections, ..Tables::default() };
+        let mut tables = Tables { program: Lent::new(&[d, f, prologue, body, epilogue]), sections, ..Tables::default() };
         tables.lend_windows(random, &program.work, &program.table);
         Case { calls: &[Call::Run], rule: 0, lengths: [0; 2], budget: Budget::Steps(program.budget), tables }
     }
@@ -175,7 +173,7 @@ impl Tables {
         Head { d, f, prologue, body, epilogue }
     }
 
-    fn call(&mut self, call: Call, calls: &Calls, case: &Case) -> Answer {
+    pub fn call(&mut self, call: Call, calls: &Calls, case: &Case) -> Answer {
         let Tables { head, nodes, placed_head, placed_nodes, program, plain_work, table, .. } = self;
         let [prologue, body, epilogue] = &mut self.sections;
         match call {
@@ -191,8 +189,8 @@ impl Tables {
             }
             Call::Plan => (calls.plan)(case.rule, head, nodes, case.lengths, program, [prologue, body, epilogue]),
             Call::Run => {
-                let budget = case.budget.steps(whole_steps(&self.program_head()));
                 let head = self.program_head();
+                let budget = case.budget.steps(whole_steps(&head));
                 let [prologue, body, epilogue] = &self.sections;
                 (calls.run)(&head, prologue, body, epilogue, &mut self.work, &self.table, budget)
             }
@@ -249,5 +247,9 @@ pub fn keeps_plain_loop(case: &Case, outcome: &Outcome) -> bool {
 fn translated_sheet(case: &Case, outcome: &Outcome) -> Sheet {
     let sheet = Document::checked(&outcome.tables.head, &outcome.tables.nodes).expect("a sheet that was done");
     let placed = case.calls.contains(&Call::Place) || case.calls.contains(&Call::Plan);
-    if placed { Document::placed(case.rule, &sheet) } else { sheet }
+    if placed {
+        Document::placed(case.rule, &sheet)
+    } else {
+        sheet
+    }
 }

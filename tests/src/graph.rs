@@ -1,8 +1,11 @@
 //! Sheets and graphs handed over as tables: the checks 3, 4 and 6 to 11 of document 01, the offset rules, and the tree that the
 //! postfix order stands for. The readings of docs/DECISIONS.md are those taken here.
+//!
+//! What is marked `#[inline(never)]`, here and in the files beside this, would otherwise be copied into its callers for each wrong
+//! implementation, and the compiler takes half as long again.
 
 use crate::machine::{largest, refused};
-use crate::tables::{Lending, NODE_ENTRIES, NODES_MOST};
+use crate::tables::{Lending, NODES_MOST, NODE_ENTRIES};
 use crate::{Answer, ALIGN, BOUNDS, CARRY, DONE, LONG, OFFSET, RANGE, ROOM, SHAPE, WINDOW};
 
 #[derive(Clone, Copy, Debug, PartialEq, Eq)]
@@ -89,6 +92,7 @@ pub trait Checking: Lending {
     // ---- 3 and 4
 
     /// "as if read, right after ROOM": a sheet's tables, which have room, line by line
+    #[inline(never)]
     fn checked(head: &[u64], rows: &[u64]) -> Result<Sheet, Answer> {
         let mut growing = Self::header(head[0], head[1], head[2])?;
         let count = head[3];
@@ -107,6 +111,7 @@ pub trait Checking: Lending {
     }
 
     /// One node more; "on one line 2 before 3 before 4".
+    #[inline(never)]
     fn add(growing: &mut Growing, row: NodeRow) -> Result<(), Answer> {
         let line = growing.line();
         let node = Self::node(growing.sheet.d, row).ok_or(refused(RANGE, line))?;
@@ -118,7 +123,11 @@ pub trait Checking: Lending {
     /// "not one waiting at the end, or a wrong node number"
     fn end(growing: &Growing, count: u64) -> Result<(), Answer> {
         let fine = growing.waiting == 1 && count == growing.sheet.nodes.len() as u64;
-        if fine { Ok(()) } else { Err(refused(SHAPE, growing.line())) }
+        if fine {
+            Ok(())
+        } else {
+            Err(refused(SHAPE, growing.line()))
+        }
     }
 
     fn header_in_range(d: u64, n: u64, store: u64) -> bool {
@@ -193,6 +202,7 @@ pub trait Checking: Lending {
     }
 
     /// "an address not a multiple of D"; "the store (line 1) comes before the nodes"
+    #[inline(never)]
     fn alignment(sheet: &Sheet) -> Result<(), Answer> {
         if !Self::aligned(sheet.d, sheet.store) {
             return Err(refused(ALIGN, 1));
@@ -209,6 +219,7 @@ pub trait Checking: Lending {
     }
 
     /// "address + nD beyond its window"
+    #[inline(never)]
     fn bounds(sheet: &Sheet, lengths: [u64; 2]) -> Result<(), Answer> {
         if Self::beyond(sheet, sheet.store, lengths[0]) {
             return Err(refused(BOUNDS, 1));
@@ -224,6 +235,7 @@ pub trait Checking: Lending {
         address + sheet.bytes() > length
     }
 
+    #[inline(never)]
     fn carry(sheet: &Sheet) -> Result<(), Answer> {
         let mut loads = sheet.loads();
         match loads.find(|&(_, window, address)| Self::carried(sheet, window, address)) {
@@ -240,6 +252,7 @@ pub trait Checking: Lending {
     // ---- 10 and 11
 
     /// "In 7 and 8 the store (line 1) comes before the nodes, in 10 after them."
+    #[inline(never)]
     fn offsets(sheet: &Sheet) -> Result<(), Answer> {
         let mut waiting: Vec<Offset> = Vec::new();
         for (k, &node) in sheet.nodes.iter().enumerate() {
@@ -247,7 +260,11 @@ pub trait Checking: Lending {
             waiting.push(offset);
         }
         let root = last(&mut waiting);
-        if Self::agree(root, Some(sheet.offset())) { Ok(()) } else { Err(refused(OFFSET, 1)) }
+        if Self::agree(root, Some(sheet.offset())) {
+            Ok(())
+        } else {
+            Err(refused(OFFSET, 1))
+        }
     }
 
     /// A node's offset from those that wait, of which it takes its inputs'; none where a rule is broken.
@@ -280,7 +297,11 @@ pub trait Checking: Lending {
     }
 
     fn length(sheet: &Sheet) -> Result<(), Answer> {
-        if Self::too_long(size(&sheet.nodes)) { Err(refused(LONG, 0)) } else { Ok(()) }
+        if Self::too_long(size(&sheet.nodes)) {
+            Err(refused(LONG, 0))
+        } else {
+            Ok(())
+        }
     }
 
     /// "G above 1,020"

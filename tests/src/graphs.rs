@@ -7,7 +7,6 @@ use crate::graph::{Node, Sheet};
 use crate::random::Random;
 use crate::sheets::{lines, tables, text, Setting};
 
-
 pub const FAMILIES: &[Family] = &[
     Family { name: "bare sheets", cases: 40_000, make: bare_sheets },
     Family { name: "not bare", cases: 12_000, make: not_bare },
@@ -131,7 +130,11 @@ fn budget(random: &mut Random) -> Budget {
         Budget::Whole(1),
         Budget::Whole(0),
     ];
-    if random.one_in(4) { random.pick(&budgets) } else { Budget::Steps(u64::MAX) }
+    if random.one_in(4) {
+        random.pick(&budgets)
+    } else {
+        Budget::Steps(u64::MAX)
+    }
 }
 
 fn whole_way(random: &mut Random, calls: &'static [Call], sheet: &Sheet, lengths: [u64; 2]) -> Case {

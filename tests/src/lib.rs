@@ -4,6 +4,8 @@
 pub mod board;
 pub mod calls;
 pub mod careful;
+pub mod careful_loop;
+pub mod careful_sheet;
 pub mod cases;
 pub mod graph;
 pub mod graphs;
@@ -21,6 +23,7 @@ pub mod sheets;
 pub mod show;
 pub mod tables;
 pub mod texts;
+pub mod timings;
 pub mod translate;
 pub mod windows;
 pub mod wrong;

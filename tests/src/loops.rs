@@ -9,14 +9,17 @@ use crate::random::Random;
 fn load_shifted(window: u64, address: u64, to: u64) -> Vec<Node> {
     let from = address % 16;
     let load = Node::Load { window, address };
-    if from == to { vec![load] } else { vec![load, Node::Shift { from, to }] }
+    if from == to {
+        vec![load]
+    } else {
+        vec![load, Node::Shift { from, to }]
+    }
 }
 
 /// Document 01's printed sheet, placed by LAZY, with another n and store address: its offset must stay 6. With n = 4,096 the
 /// printed address would be CARRY.
 pub fn printed(n: u64, store: u64) -> Sheet {
-    let (first, second, third) =
-        (load_shifted(1, 0x0002, 6), load_shifted(0, 0x000A, 6), load_shifted(0, 0x0102, 6));
+    let (first, second, third) = (load_shifted(1, 0x0002, 6), load_shifted(0, 0x000A, 6), load_shifted(0, 0x0102, 6));
     let add = vec![Node::Op(0)];
     Sheet { d: 2, n, store, nodes: [first, second, add.clone(), third, add].concat() }
 }

@@ -6,18 +6,18 @@
 //!     outside --seed S      other cases; 0 is the usual seed
 //!     outside --careful     the benchmark's Rust in the library's place
 //!     outside --self-check  the families against implementations that are wrong on purpose: each must be found
+//!     outside --wrong NAME  one of those in the library's place, which shows how a difference looks
 
 use outside::board::{library, LINKED};
 use outside::calls::{Call, Calls, ALL, INDEPENDENT};
 use outside::cases::{keeps_plain_loop, observe, Case, Family, Outcome};
 use outside::show::print_difference;
 use outside::wrong_calls::Wrong;
-use outside::{careful, graphs, handed, paper, programs, texts, windows, wrong_calls};
+use outside::{careful, graphs, handed, paper, programs, texts, windows, wrong_calls, DONE, FAULT};
 use std::process::ExitCode;
 
 fn families() -> Vec<&'static Family> {
-    let modules =
-        [programs::FAMILIES, texts::FAMILIES, handed::FAMILIES, windows::FAMILIES, graphs::FAMILIES];
+    let modules = [programs::FAMILIES, texts::FAMILIES, handed::FAMILIES, windows::FAMILIES, graphs::FAMILIES];
     modules.into_iter().flatten().collect()
 }
 
@@ -30,35 +30,44 @@ fn keeps_paper(name: &str, calls: &Calls) -> bool {
     wrong.is_empty()
 }
 
-/// How many cases of each call were compared.
-struct Compared([u64; ALL.len()]);
+/// How many answers of each number each call gave that was compared.
+struct Compared([[u64; FAULT as usize + 1]; ALL.len()]);
 
 impl Compared {
     fn count(&mut self, case: &Case, outcome: &Outcome, linked: &[Call]) {
-        for call in case.calls.iter().take(outcome.answers.len()).filter(|call| linked.contains(call)) {
-            self.0[*call as usize] += 1;
+        let calls = case.calls.iter().zip(&outcome.answers).filter(|(call, _)| linked.contains(call));
+        for (&call, answer) in calls {
+            self.0[call as usize][answer.number as usize] += 1;
         }
     }
 
     fn print(&self, linked: &[Call]) {
-        for (call, count) in ALL.iter().zip(self.0) {
-            match linked.contains(call) {
-                true => println!("{call:?}: {count} compared"),
-                false => println!("{call:?}: not there"),
+        for (call, counts) in ALL.iter().zip(self.0) {
+            if !linked.contains(call) {
+                println!("{call:?}: not there");
+                continue;
             }
+            let answers: Vec<_> = (0..).zip(counts).filter(|&(_, count)| count > 0).collect();
+            let answers: Vec<_> = answers.iter().map(|(number, count)| format!("{number}: {count}")).collect();
+            println!("{call:?}: {} compared, by answer {}", counts.iter().sum::<u64>(), answers.join(", "));
         }
     }
 }
 
+/// Whether every call was made and done.
+fn whole(case: &Case, outcome: &Outcome) -> bool {
+    outcome.answers.len() == case.calls.len() && outcome.answers.iter().all(|answer| answer.number == DONE)
+}
+
 /// Every family against a set of calls, of which those linked are not the independent ones.
 fn compare(calls: &Calls, linked: &[Call], times: u64, seed: u64) -> ExitCode {
-    if !keeps_paper("independent", &INDEPENDENT) || !keeps_paper("library", calls) {
+    if !keeps_paper("independent", &INDEPENDENT) || !keeps_paper("compared", calls) {
         return ExitCode::FAILURE;
     }
-    let mut compared = Compared([0; ALL.len()]);
+    let mut compared = Compared([[0; FAULT as usize + 1]; ALL.len()]);
     let mut total = 0;
     for family in families() {
-        let mut cases = 0;
+        let (mut cases, mut done) = (0, 0);
         for number in 0..family.cases * times {
             let case = family.case(number, seed);
             if !case.calls.iter().any(|call| linked.contains(call)) {
@@ -73,8 +82,9 @@ fn compare(calls: &Calls, linked: &[Call], times: u64, seed: u64) -> ExitCode {
             }
             compared.count(&case, &expected, linked);
             cases += 1;
+            done += u64::from(whole(&case, &expected));
         }
-        println!("{cases:>8} cases: {}", family.name);
+        println!("{cases:>8} cases, {done:>8} done: {}", family.name);
         total += cases;
     }
     compared.print(linked);
@@ -106,7 +116,9 @@ fn find_wrong() -> bool {
     for (k, wrong) in wrong.iter().enumerate() {
         let finders = families.iter().zip(&found).filter_map(|(family, found)| Some((found[k]?, family.name)));
         match finders.clone().min() {
-            Some((number, family)) => println!("{}: {} families find it, {family} in case {number}", wrong.name, finders.count()),
+            Some((number, family)) => {
+                println!("{}: {} families find it, {family} in case {number}", wrong.name, finders.count())
+            }
             None => {
                 println!("{}: NOT FOUND", wrong.name);
                 missed += 1;
@@ -128,11 +140,12 @@ struct Arguments {
     times: u64,
     seed: u64,
     careful: bool,
+    wrong: Option<String>,
     self_check: bool,
 }
 
 fn arguments() -> Option<Arguments> {
-    let mut chosen = Arguments { times: 1, seed: 0, careful: false, self_check: false };
+    let mut chosen = Arguments { times: 1, seed: 0, careful: false, wrong: None, self_check: false };
     let mut arguments = std::env::args().skip(1);
     while let Some(argument) = arguments.next() {
         match argument.as_str() {
@@ -140,6 +153,7 @@ fn arguments() -> Option<Arguments> {
             "--long" => chosen.times = 50,
             "--seed" => chosen.seed = arguments.next()?.parse().ok()?,
             "--careful" => chosen.careful = true,
+            "--wrong" => chosen.wrong = Some(arguments.next()?),
             "--self-check" => chosen.self_check = true,
             _ => return None,
         }
@@ -148,12 +162,16 @@ fn arguments() -> Option<Arguments> {
 }
 
 fn status(right: bool) -> ExitCode {
-    if right { ExitCode::SUCCESS } else { ExitCode::FAILURE }
+    if right {
+        ExitCode::SUCCESS
+    } else {
+        ExitCode::FAILURE
+    }
 }
 
 fn main() -> ExitCode {
-    let Some(Arguments { times, seed, careful, self_check }) = arguments() else {
-        eprintln!("outside [--times N | --long] [--seed S] [--careful] | --self-check");
+    let Some(Arguments { times, seed, careful, wrong, self_check }) = arguments() else {
+        eprintln!("outside [--times N | --long] [--seed S] [--careful | --wrong NAME] | --self-check");
         return ExitCode::from(2);
     };
     if self_check {
@@ -161,6 +179,12 @@ fn main() -> ExitCode {
     }
     if careful {
         return compare(&careful::CALLS, careful::WRITTEN, times, seed);
+    }
+    if let Some(name) = wrong {
+        return match wrong_calls::all().into_iter().find(|wrong| wrong.name == name) {
+            Some(wrong) => compare(&wrong.calls, wrong.concerns, times, seed),
+            None => ExitCode::from(2),
+        };
     }
     match library() {
         Some(calls) => compare(&calls, LINKED, times, seed),

@@ -25,7 +25,10 @@ pub fn cases(calls: &Calls) -> Vec<(&'static str, bool)> {
         ("D = 2, c = 6: n = 100, 4, 5", [100, 4, 5].map(|n| counts(calls, 6, n)) == [(12, 7), (0, 7), (1, 0)]),
         ("A = S, A = S+D and CARRY", carries(calls)),
         ("address + nD and the length", bounds(calls)),
-        ("8 and 9 chained shifts", chained(calls, 8) == (511, refused(DONE, 0)) && chained(calls, 9) == (1023, refused(LONG, 0))),
+        (
+            "8 and 9 chained shifts",
+            chained(calls, 8) == (511, refused(DONE, 0)) && chained(calls, 9) == (1023, refused(LONG, 0)),
+        ),
     ]
 }
 
@@ -133,9 +136,8 @@ fn carries(calls: &Calls) -> bool {
 
 /// "Address + nD equal to the length passes; D more is BOUNDS."
 fn bounds(calls: &Calls) -> bool {
-    let answers = [(4, 6), (4, 7), (0, 8), (0, 9)].map(|(store, n)| {
-        translate(calls, &Sheet { d: 2, n, store, nodes: vec![Node::Splat(0)] }, 16).0
-    });
+    let answers = [(4, 6), (4, 7), (0, 8), (0, 9)]
+        .map(|(store, n)| translate(calls, &Sheet { d: 2, n, store, nodes: vec![Node::Splat(0)] }, 16).0);
     let (passes, beyond) = (refused(DONE, 0), refused(BOUNDS, 1));
     answers == [passes, beyond, passes, beyond]
 }

@@ -19,7 +19,11 @@ pub struct Part {
 pub trait Placing: Checking {
     /// "A placing rule above 3 is RANGE with place 0"
     fn rule(rule: u64) -> Result<(), Answer> {
-        if rule > 3 { Err(refused(RANGE, 0)) } else { Ok(()) }
+        if rule > 3 {
+            Err(refused(RANGE, 0))
+        } else {
+            Ok(())
+        }
     }
 
     /// "a bare sheet has no shift and at most 31 nodes"; "place is the first line with a shift or a 32nd node"
@@ -35,6 +39,7 @@ pub trait Placing: Checking {
         31
     }
 
+    #[inline(never)]
     fn placed(rule: u64, sheet: &Sheet) -> Sheet {
         let target = Self::op_target(rule, sheet);
         let mut waiting: Vec<Part> = Vec::new();
@@ -65,6 +70,7 @@ pub trait Placing: Checking {
     }
 
     /// "2 LAZY: where an op's two offsets disagree, each goes to c", "3 DOMINANT: as LAZY, but .."
+    #[inline(never)]
     fn placed_op(rule: u64, target: u64, op: Node, left: Part, right: Part) -> Part {
         let moves = matches!(rule, LAZY | DOMINANT) && !Self::agree(left.offset, right.offset);
         let (left, right) = if moves { (Self::moved(left, target), Self::moved(right, target)) } else { (left, right) };
@@ -78,6 +84,7 @@ pub trait Placing: Checking {
     }
 
     /// "A shift goes on an edge only where the offset is defined and changes."
+    #[inline(never)]
     fn moved(mut part: Part, to: u64) -> Part {
         if let Some(from) = part.offset.filter(|&from| from != to) {
             part.nodes.push(Node::Shift { from, to });
@@ -87,7 +94,11 @@ pub trait Placing: Checking {
     }
 
     fn op_target(rule: u64, sheet: &Sheet) -> u64 {
-        if rule == DOMINANT { Self::dominant(sheet) } else { sheet.offset() }
+        if rule == DOMINANT {
+            Self::dominant(sheet)
+        } else {
+            sheet.offset()
+        }
     }
 
     /// "the offset met most often among the loads and the store, the smallest on a tie"
@@ -124,13 +135,7 @@ pub trait Placing: Checking {
 }
 
 /// The call that places.
-pub fn place<R: Placing>(
-    rule: u64,
-    head: &[u64],
-    nodes: &[u64],
-    placed_head: &mut [u64],
-    placed_nodes: &mut [u64],
-) -> Answer {
+pub fn place<R: Placing>(rule: u64, head: &[u64], nodes: &[u64], placed_head: &mut [u64], placed_nodes: &mut [u64]) -> Answer {
     let fits = R::sheet_fits(head, nodes) && R::sheet_fits(placed_head, placed_nodes);
     let result = if fits { R::placing(rule, head, nodes) } else { Err(refused(ROOM, 0)) };
     leave::<R>(result, placed_head, placed_nodes)

@@ -41,10 +41,15 @@ pub trait Reading: Checking {
 
     /// "text after end" stands on the line after it
     fn finished(growing: Growing, rest: &[u8]) -> Result<Sheet, Answer> {
-        if rest.is_empty() { Ok(growing.sheet) } else { Err(refused(LINE, growing.line() + 1)) }
+        if rest.is_empty() {
+            Ok(growing.sheet)
+        } else {
+            Err(refused(LINE, growing.line() + 1))
+        }
     }
 
     /// The frame of the first line and the text behind it; none if the line is none of the format.
+    #[inline(never)]
     fn frame(text: &[u8]) -> Option<(Frame, &[u8])> {
         let (line, rest) = Self::line(text)?;
         let digits: Vec<u64> = line.iter().map(|&byte| Self::digit(byte)).collect::<Option<_>>()?;
@@ -108,6 +113,7 @@ pub fn number(digits: &[u64]) -> u64 {
 }
 
 /// Leaves a sheet in lent tables, or what its refusal leaves.
+#[inline(never)]
 pub fn leave<R: Checking>(result: Result<Sheet, Answer>, head: &mut [u64], nodes: &mut [u64]) -> Answer {
     match result {
         Ok(sheet) => {

@@ -26,7 +26,11 @@ impl Setting {
         let lengths = [0; 2].map(|_: u64| {
             let slack = random.pick(&[16, 16, 32, 32, 64, 256]);
             let least = (n * d).next_multiple_of(16) + slack;
-            if random.one_in(40) { 65_536 } else { least }
+            if random.one_in(40) {
+                65_536
+            } else {
+                least
+            }
         });
         let mut setting = Setting { d, n, store: 0, lengths };
         setting.store = setting.address(random, 0, p * d);

@@ -56,6 +56,7 @@ pub trait Translating: Checking {
     }
 
     /// "tree, old block, splice(old, new, c), store"; with F = 0 "splice(that, old, c+nD)" before the store
+    #[inline(never)]
     fn prologue(sheet: &Sheet, tree: &Tree, f: u64) -> Vec<Row> {
         let c = sheet.offset() as u32;
         let mut rows = Vec::new();
@@ -74,6 +75,7 @@ pub trait Translating: Checking {
     }
 
     /// "Body, if F ≥ 2: tree, store"
+    #[inline(never)]
     fn body(sheet: &Sheet, tree: &Tree) -> Vec<Row> {
         let mut rows = Vec::new();
         let new = Self::code(tree, Self::lower_bound(sheet), &mut rows);
@@ -92,6 +94,7 @@ pub trait Translating: Checking {
     }
 
     /// "tree, old block, splice(new, old, eD), store"
+    #[inline(never)]
     fn epilogue(sheet: &Sheet, tree: &Tree, e: u64) -> Vec<Row> {
         let mut rows = Vec::new();
         let new = Self::code(tree, Self::lower_bound(sheet), &mut rows);
@@ -102,6 +105,7 @@ pub trait Translating: Checking {
     }
 
     /// The code of a tree with something added to its addresses, behind the rows that are there; the register of its value.
+    #[inline(never)]
     fn code(tree: &Tree, added: i64, rows: &mut Vec<Row>) -> u32 {
         match tree {
             Tree::Load { window, address } => put(rows, |k| load(k, *window as u32, *address as i64 + added)),
@@ -122,6 +126,7 @@ pub trait Translating: Checking {
 
     /// "Left (from > to): vshiftpair(this, next, from-to) .. Right: vshiftpair(previous, this, 16-(to-from))", "of a shift's two
     /// copies always this" first
+    #[inline(never)]
     fn shift(from: i64, to: i64, child: &Tree, added: i64, rows: &mut Vec<Row>) -> u32 {
         let this = Self::code(child, added, rows);
         if from > to {
@@ -178,6 +183,7 @@ pub fn steps<R: Translating>(sheet: &Sheet) -> u64 {
 }
 
 /// Leaves a program in lent tables, or what its refusal leaves.
+#[inline(never)]
 fn leave<R: Checking>(result: Result<Translated, Answer>, program: &mut [u64], sections: [&mut [u32]; 3]) -> Answer {
     match result {
         Ok(translated) => {

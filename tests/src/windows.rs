@@ -28,11 +28,8 @@ fn plain_loops(random: &mut Random, _: u64) -> Case {
     let setting = Setting::random(random);
     let size: u64 = random.pick(&[1, 2, 3, 4, 5, 7, 10, 20, 40, 64]);
     let offset = setting.any_offset(random);
-    let nodes = if random.one_in(3) {
-        setting.bare(random, size.div_ceil(2))
-    } else {
-        setting.graph(random, size, offset, false)
-    };
+    let nodes =
+        if random.one_in(3) { setting.bare(random, size.div_ceil(2)) } else { setting.graph(random, size, offset, false) };
     judged(random, &[Call::Plain], &setting.sheet(nodes), setting.lengths)
 }
 
@@ -86,9 +83,8 @@ fn ends_of_windows(random: &mut Random, number: u64) -> Case {
 
 /// Every two lengths of a list, allowed and not.
 fn lengths_of_windows(random: &mut Random, number: u64) -> Case {
-    const LENGTHS: [u64; 20] = [
-        0, 1, 8, 15, 16, 17, 24, 31, 32, 33, 48, 64, 65_520, 65_528, 65_535, 65_536, 65_537, 65_544, 65_552, 131_072,
-    ];
+    const LENGTHS: [u64; 20] =
+        [0, 1, 8, 15, 16, 17, 24, 31, 32, 33, 48, 64, 65_520, 65_528, 65_535, 65_536, 65_537, 65_544, 65_552, 131_072];
     let lengths = [LENGTHS[number as usize % 20], LENGTHS[number as usize / 20 % 20]];
     let d = random.pick(&WIDTHS);
     let sheet = Sheet {

@@ -46,13 +46,27 @@ macro_rules! wrong_in {
 /// A call by the name of its function.
 #[macro_export]
 macro_rules! concern {
-    (read) => { $crate::calls::Call::Read };
-    (check) => { $crate::calls::Call::Check };
-    (offset_check) => { $crate::calls::Call::OffsetCheck };
-    (plain) => { $crate::calls::Call::Plain };
-    (place) => { $crate::calls::Call::Place };
-    (translate) => { $crate::calls::Call::Translate };
-    (plan) => { $crate::calls::Call::Plan };
+    (read) => {
+        $crate::calls::Call::Read
+    };
+    (check) => {
+        $crate::calls::Call::Check
+    };
+    (offset_check) => {
+        $crate::calls::Call::OffsetCheck
+    };
+    (plain) => {
+        $crate::calls::Call::Plain
+    };
+    (place) => {
+        $crate::calls::Call::Place
+    };
+    (translate) => {
+        $crate::calls::Call::Translate
+    };
+    (plan) => {
+        $crate::calls::Call::Plan
+    };
 }
 
 /// The document's rules for every kind but one.
