@@ -1,7 +1,12 @@
 //! The machine a careful Rust programmer would ship, for the benchmark: safe code, the element's width chosen once a run,
 //! lanes as typed arrays, registers as a local array, nothing allocated. It decodes each row when it comes to it.
 
-use crate::{Answer, Head, Row, DONE, FAULT, OUT, ROOM, WINDOW};
+use crate::calls::{Call, Calls, INDEPENDENT};
+use crate::{careful_loop, careful_sheet, Answer, Head, Row, DONE, FAULT, OUT, ROOM, WINDOW};
+
+/// What is written carefully, in the place of the independent calls.
+pub const CALLS: Calls = Calls { read: careful_sheet::read, plain: careful_loop::plain, run, ..INDEPENDENT };
+pub const WRITTEN: &[Call] = &[Call::Read, Call::Plain, Call::Run];
 
 type Vector = [u8; 16];
 

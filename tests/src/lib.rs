@@ -1,13 +1,39 @@
-//! What the tests and the benchmark share: the call's types, the library behind a safe function, two machines in Rust, and the
-//! programs that all of them are given.
+//! What the tests and the benchmark share: the calls' types, the library behind safe functions, everything that it does once
+//! more in Rust, and the cases that all of them are given.
 
 pub mod board;
+pub mod calls;
 pub mod careful;
+pub mod careful_loop;
+pub mod careful_sheet;
+pub mod cases;
+pub mod graph;
+pub mod graphs;
+pub mod handed;
 pub mod loops;
 pub mod machine;
+pub mod paper;
+pub mod placing;
+pub mod plain;
 pub mod programs;
 pub mod random;
+pub mod rows;
+pub mod sheet;
+pub mod sheets;
+pub mod show;
+pub mod tables;
+pub mod texts;
+pub mod timings;
+pub mod translate;
+pub mod windows;
 pub mod wrong;
+pub mod wrong_calls;
+pub mod wrong_checks;
+pub mod wrong_code;
+pub mod wrong_loops;
+pub mod wrong_placing;
+pub mod wrong_reading;
+pub mod wrong_tables;
 
 /// D, F, and how many rows of each section are the program's.
 #[derive(Clone, Copy, Debug)]
@@ -29,7 +55,16 @@ pub struct Answer {
 
 pub const DONE: u64 = 0;
 pub const ROOM: u64 = 1;
+pub const LINE: u64 = 2;
+pub const RANGE: u64 = 3;
+pub const SHAPE: u64 = 4;
+pub const BARE: u64 = 5;
 pub const WINDOW: u64 = 6;
+pub const ALIGN: u64 = 7;
+pub const BOUNDS: u64 = 8;
+pub const CARRY: u64 = 9;
+pub const OFFSET: u64 = 10;
+pub const LONG: u64 = 11;
 pub const OUT: u64 = 12;
 pub const FAULT: u64 = 13;
 

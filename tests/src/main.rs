@@ -1,179 +1,193 @@
-//! The outside tests: the library against an independent machine, case by case.
+//! The outside tests: the library against an independent implementation, case by case.
 //!
 //!     outside               every family against the library; exit status 1 at the first difference
+//!     outside --times N     N times as many cases
 //!     outside --long        fifty times as many cases
-//!     outside --careful     the benchmark's Rust machine in the library's place
-//!     outside --self-check  the families against machines that are wrong on purpose: each must be found; and the independent
-//!                           machine against the plain loop
+//!     outside --seed S      other cases; 0 is the usual seed
+//!     outside --careful     the benchmark's Rust in the library's place
+//!     outside --self-check  the families against implementations that are wrong on purpose: each must be found
+//!     outside --wrong NAME  one of those in the library's place, which shows how a difference looks
 
-use outside::board::library;
-use outside::machine::{run, Document};
-use outside::programs::{translated, Case, Family, FAMILIES};
-use outside::random::Random;
-use outside::wrong::WRONG;
-use outside::{careful, Answer, Run, DONE};
+use outside::board::{library, LINKED};
+use outside::calls::{Call, Calls, ALL, INDEPENDENT};
+use outside::cases::{keeps_plain_loop, observe, Case, Family, Outcome};
+use outside::show::print_difference;
+use outside::wrong_calls::Wrong;
+use outside::{careful, graphs, handed, paper, programs, texts, windows, wrong_calls, DONE, FAULT};
 use std::process::ExitCode;
 
-/// What a machine gives and leaves. Work and table lie between guards, work not always aligned.
-#[derive(PartialEq)]
-struct Outcome {
-    answer: Answer,
-    work: Vec<u8>,
-    table: Vec<u8>,
+fn families() -> Vec<&'static Family> {
+    let modules = [programs::FAMILIES, texts::FAMILIES, handed::FAMILIES, windows::FAMILIES, graphs::FAMILIES];
+    modules.into_iter().flatten().collect()
 }
 
-const GUARD: usize = 64;
-const GUARD_BYTE: u8 = 0xA5;
-
-fn guarded(bytes: &[u8], before: usize) -> Vec<u8> {
-    let mut buffer = vec![GUARD_BYTE; before + bytes.len() + GUARD];
-    buffer[before..before + bytes.len()].copy_from_slice(bytes);
-    buffer
-}
-
-fn observe(machine: Run, case: &Case, number: u64) -> Outcome {
-    let before = GUARD + number as usize % 16;
-    let mut work = guarded(&case.work, before);
-    let table = guarded(&case.table, before);
-    let [prologue, body, epilogue] = &case.sections;
-    let answer = machine(
-        &case.head,
-        prologue,
-        body,
-        epilogue,
-        &mut work[before..before + case.work.len()],
-        &table[before..before + case.table.len()],
-        case.budget,
-    );
-    Outcome { answer, work, table }
-}
-
-fn print_rows(name: &str, section: &[u32]) {
-    const MOST: usize = 64;
-    println!("  {name}: {} entries", section.len());
-    for row in section.chunks(6).take(MOST) {
-        println!("    {row:?}");
+/// The cases of the paper, which the independent implementation must keep too.
+fn keeps_paper(name: &str, calls: &Calls) -> bool {
+    let wrong: Vec<_> = paper::cases(calls).into_iter().filter(|(_, right)| !right).collect();
+    for (case, _) in &wrong {
+        println!("{name}: not as in document 01: {case}");
     }
-    if section.len() > 6 * MOST {
-        println!("    .. and so on");
-    }
+    wrong.is_empty()
 }
 
-fn print_difference(family: &Family, number: u64, case: &Case, expected: &Outcome, found: &Outcome) {
-    println!("difference in {}, case {number}", family.name);
-    println!("  {:?}, budget {}", case.head, case.budget);
-    println!("  work {} bytes, table {} bytes", case.work.len(), case.table.len());
-    for (name, section) in ["prologue", "body", "epilogue"].into_iter().zip(&case.sections) {
-        print_rows(name, section);
+/// How many answers of each number each call gave that was compared.
+struct Compared([[u64; FAULT as usize + 1]; ALL.len()]);
+
+impl Compared {
+    fn count(&mut self, case: &Case, outcome: &Outcome, linked: &[Call]) {
+        let calls = case.calls.iter().zip(&outcome.answers).filter(|(call, _)| linked.contains(call));
+        for (&call, answer) in calls {
+            self.0[call as usize][answer.number as usize] += 1;
+        }
     }
-    println!("  expected {:?}", expected.answer);
-    println!("  found    {:?}", found.answer);
-    let before = GUARD as i64 + number as i64 % 16;
-    for (name, expected, found) in [("work", &expected.work, &found.work), ("table", &expected.table, &found.table)] {
-        if let Some(at) = (0..expected.len()).find(|&at| expected[at] != found[at]) {
-            let address = at as i64 - before;
-            println!("  {name} at {address}: expected {}, found {}", expected[at], found[at]);
+
+    fn print(&self, linked: &[Call]) {
+        for (call, counts) in ALL.iter().zip(self.0) {
+            if !linked.contains(call) {
+                println!("{call:?}: not there");
+                continue;
+            }
+            let answers: Vec<_> = (0..).zip(counts).filter(|&(_, count)| count > 0).collect();
+            let answers: Vec<_> = answers.iter().map(|(number, count)| format!("{number}: {count}")).collect();
+            println!("{call:?}: {} compared, by answer {}", counts.iter().sum::<u64>(), answers.join(", "));
         }
     }
 }
 
-/// Every family against a machine.
-fn compare(machine: Run, times: u64) -> ExitCode {
+/// Whether every call was made and done.
+fn whole(case: &Case, outcome: &Outcome) -> bool {
+    outcome.answers.len() == case.calls.len() && outcome.answers.iter().all(|answer| answer.number == DONE)
+}
+
+/// Every family against a set of calls, of which those linked are not the independent ones.
+fn compare(calls: &Calls, linked: &[Call], times: u64, seed: u64) -> ExitCode {
+    if !keeps_paper("independent", &INDEPENDENT) || !keeps_paper("compared", calls) {
+        return ExitCode::FAILURE;
+    }
+    let mut compared = Compared([[0; FAULT as usize + 1]; ALL.len()]);
     let mut total = 0;
-    for family in &FAMILIES {
-        let cases = family.cases * times;
-        let mut steps = 0;
-        for number in 0..cases {
-            let case = family.case(number);
-            let expected = observe(run::<Document>, &case, number);
-            let found = observe(machine, &case, number);
-            if expected != found {
-                print_difference(family, number, &case, &expected, &found);
+    for family in families() {
+        let (mut cases, mut done) = (0, 0);
+        for number in 0..family.cases * times {
+            let case = family.case(number, seed);
+            if !case.calls.iter().any(|call| linked.contains(call)) {
+                continue;
+            }
+            let expected = observe(&INDEPENDENT, &case);
+            let found = observe(calls, &case);
+            if expected != found || !keeps_plain_loop(&case, &expected) {
+                print_difference(&format!("{}, case {number}, seed {seed}", family.name), &case, &expected, &found);
+                println!("outside: {} cases, 1 difference, stopped there", total + cases + 1);
                 return ExitCode::FAILURE;
             }
-            steps += expected.answer.steps;
+            compared.count(&case, &expected, linked);
+            cases += 1;
+            done += u64::from(whole(&case, &expected));
         }
-        println!("{:>8} cases, {steps:>10} steps: {}", cases, family.name);
+        println!("{cases:>8} cases, {done:>8} done: {}", family.name);
         total += cases;
     }
+    compared.print(linked);
     println!("outside: {total} cases, 0 differences");
     ExitCode::SUCCESS
 }
 
-/// Every family, with a tenth of its cases, against every wrong machine.
-fn find_wrong() -> bool {
-    let mut finders = vec![Vec::new(); WRONG.len()];
-    for family in &FAMILIES {
-        let cases = (family.cases / 10).max(6);
-        let mut first_found = [None; WRONG.len()];
-        for number in 0..cases {
-            let case = family.case(number);
-            let expected = observe(run::<Document>, &case, number);
-            for ((_, machine), first) in WRONG.into_iter().zip(&mut first_found) {
-                if first.is_none() && observe(machine, &case, number) != expected {
-                    *first = Some(number);
-                }
+/// What a family's cases, a part of them, find: for each wrong implementation the first case.
+fn found_by(family: &Family, wrong: &[Wrong]) -> Vec<Option<u64>> {
+    let mut first_found = vec![None; wrong.len()];
+    for number in 0..(family.cases / 10).clamp(6, 2_000) {
+        let case = family.case(number, 0);
+        let expected = observe(&INDEPENDENT, &case);
+        assert!(keeps_plain_loop(&case, &expected), "{}, case {number}: not the plain loop's memory", family.name);
+        for (wrong, first) in wrong.iter().zip(&mut first_found) {
+            let concerned = case.calls.iter().any(|call| wrong.concerns.contains(call));
+            if first.is_none() && concerned && observe(&wrong.calls, &case) != expected {
+                *first = Some(number);
             }
         }
-        for (finders, first) in finders.iter_mut().zip(first_found) {
-            finders.extend(first.map(|number| (number, family.name)));
-        }
     }
-    for ((name, _), finders) in WRONG.iter().zip(&finders) {
-        match finders.iter().min() {
-            Some((number, family)) => {
-                println!("{name}: {} of {} families find it, {family} in case {number}", finders.len(), FAMILIES.len())
-            }
-            None => println!("{name}: NOT FOUND"),
-        }
-    }
-    let mut useful = 0;
-    for family in &FAMILIES {
-        let count = finders.iter().flatten().filter(|(_, name)| *name == family.name).count();
-        println!("{} finds {count}", family.name);
-        useful += usize::from(count > 0);
-    }
-    let found = finders.iter().filter(|finders| !finders.is_empty()).count();
-    println!("self-check: {found} of {} wrong machines found; {useful} of {} families find some", WRONG.len(), FAMILIES.len());
-    found == WRONG.len() && useful == FAMILIES.len()
+    first_found
 }
 
-/// The independent machine runs translated loops as the plain loop does.
-fn follows_plain_loop() -> bool {
-    const LOOPS: u64 = 4_000;
-    let kept = (0..LOOPS).filter(|&number| {
-        let (made, case) = translated(&mut Random::new(number));
-        let mut expected = case.work.clone();
-        made.plain(&mut expected, &case.table);
-        let mut work = case.work.clone();
-        let [prologue, body, epilogue] = &case.sections;
-        let answer = run::<Document>(&case.head, prologue, body, epilogue, &mut work, &case.table, case.budget);
-        answer.number == DONE && work == expected
-    });
-    let count = kept.count() as u64;
-    println!("self-check: {count} of {LOOPS} translated loops leave the plain loop's memory");
-    count == LOOPS
+fn find_wrong() -> bool {
+    let (families, wrong) = (families(), wrong_calls::all());
+    let found: Vec<_> = families.iter().map(|family| found_by(family, &wrong)).collect();
+    let mut missed = 0;
+    for (k, wrong) in wrong.iter().enumerate() {
+        let finders = families.iter().zip(&found).filter_map(|(family, found)| Some((found[k]?, family.name)));
+        match finders.clone().min() {
+            Some((number, family)) => {
+                println!("{}: {} families find it, {family} in case {number}", wrong.name, finders.count())
+            }
+            None => {
+                println!("{}: NOT FOUND", wrong.name);
+                missed += 1;
+            }
+        }
+    }
+    let mut useless = 0;
+    for (family, found) in families.iter().zip(&found) {
+        let count = found.iter().flatten().count();
+        println!("{} finds {count}", family.name);
+        useless += usize::from(count == 0);
+    }
+    let (right, useful) = (wrong.len() - missed, families.len() - useless);
+    println!("self-check: {right} of {} wrong found; {useful} of {} families find some", wrong.len(), families.len());
+    missed == 0 && useless == 0
+}
+
+struct Arguments {
+    times: u64,
+    seed: u64,
+    careful: bool,
+    wrong: Option<String>,
+    self_check: bool,
+}
+
+fn arguments() -> Option<Arguments> {
+    let mut chosen = Arguments { times: 1, seed: 0, careful: false, wrong: None, self_check: false };
+    let mut arguments = std::env::args().skip(1);
+    while let Some(argument) = arguments.next() {
+        match argument.as_str() {
+            "--times" => chosen.times = arguments.next()?.parse().ok()?,
+            "--long" => chosen.times = 50,
+            "--seed" => chosen.seed = arguments.next()?.parse().ok()?,
+            "--careful" => chosen.careful = true,
+            "--wrong" => chosen.wrong = Some(arguments.next()?),
+            "--self-check" => chosen.self_check = true,
+            _ => return None,
+        }
+    }
+    Some(chosen)
+}
+
+fn status(right: bool) -> ExitCode {
+    if right {
+        ExitCode::SUCCESS
+    } else {
+        ExitCode::FAILURE
+    }
 }
 
 fn main() -> ExitCode {
-    let (mut times, mut machine, mut self_check) = (1, library(), false);
-    for argument in std::env::args().skip(1) {
-        match argument.as_str() {
-            "--long" => times = 50,
-            "--careful" => machine = Some(careful::run),
-            "--self-check" => self_check = true,
-            _ => {
-                eprintln!("outside [--long] [--careful] | --self-check");
-                return ExitCode::from(2);
-            }
-        }
-    }
+    let Some(Arguments { times, seed, careful, wrong, self_check }) = arguments() else {
+        eprintln!("outside [--times N | --long] [--seed S] [--careful | --wrong NAME] | --self-check");
+        return ExitCode::from(2);
+    };
     if self_check {
-        let right = follows_plain_loop();
-        return if find_wrong() && right { ExitCode::SUCCESS } else { ExitCode::FAILURE };
+        return status(keeps_paper("independent", &INDEPENDENT) && find_wrong());
     }
-    match machine {
-        Some(machine) => compare(machine, times),
+    if careful {
+        return compare(&careful::CALLS, careful::WRITTEN, times, seed);
+    }
+    if let Some(name) = wrong {
+        return match wrong_calls::all().into_iter().find(|wrong| wrong.name == name) {
+            Some(wrong) => compare(&wrong.calls, wrong.concerns, times, seed),
+            None => ExitCode::from(2),
+        };
+    }
+    match library() {
+        Some(calls) => compare(&calls, LINKED, times, seed),
         None => {
             eprintln!("built without the library: `rt staticlib board`, then build again");
             ExitCode::from(2)

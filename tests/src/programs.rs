@@ -1,13 +1,16 @@
 //! Programs, sound and damaged, with their windows and budgets: the cases that every machine is given, in families. A case
 //! depends on its family and its number only.
 
-use crate::loops::Loop;
+use crate::cases::{whole_steps, Case, Family};
+use crate::loops;
 use crate::machine::{largest, put_element, run, Document, BODY, EPILOGUE, PROLOGUE};
 use crate::random::Random;
+use crate::rows::{held, load, op, pair, splat, splice, store};
+use crate::translate::Translating;
 use crate::{Head, Row};
 
 /// Everything that a run is handed.
-pub struct Case {
+pub struct Program {
     pub head: Head,
     pub sections: [Vec<u32>; 3],
     pub work: Vec<u8>,
@@ -15,68 +18,28 @@ pub struct Case {
     pub budget: u64,
 }
 
-pub struct Family {
-    pub name: &'static str,
-    /// how many cases an ordinary run tries
-    pub cases: u64,
-    make: fn(&mut Random, u64) -> Case,
-}
-
-impl Family {
-    pub fn case(&self, number: u64) -> Case {
-        let seed = self.name.bytes().fold(number, |seed, byte| seed.wrapping_mul(257).wrapping_add(u64::from(byte)));
-        (self.make)(&mut Random::new(seed), number)
-    }
-}
-
-pub const FAMILIES: [Family; 16] = [
-    Family { name: "sound programs", cases: 40_000, make: sound },
-    Family { name: "operations", cases: 24_000, make: operations },
-    Family { name: "shifts and splices", cases: 6_600, make: shifts_and_splices },
-    Family { name: "addresses", cases: 40_000, make: addresses },
-    Family { name: "far passes", cases: 400, make: far_passes },
-    Family { name: "one field damaged", cases: 80_000, make: one_field_damaged },
-    Family { name: "rows of edges", cases: 80_000, make: rows_of_edges },
-    Family { name: "unused fields", cases: 16_000, make: unused_fields },
-    Family { name: "section lengths", cases: 2_000, make: section_lengths },
-    Family { name: "heads", cases: 8_640, make: heads },
-    Family { name: "window lengths", cases: 3_240, make: window_lengths },
-    Family { name: "refusals together", cases: 40_000, make: refusals_together },
-    Family { name: "budgets", cases: 60_000, make: budgets },
-    Family { name: "registers", cases: 400, make: registers },
-    Family { name: "long runs", cases: 6, make: long_runs },
-    Family { name: "translated loops", cases: 8_000, make: |random, _| translated(random).1 },
+pub const FAMILIES: &[Family] = &[
+    Family { name: "sound programs", cases: 40_000, make: |random, number| case(random, number, sound) },
+    Family { name: "operations", cases: 24_000, make: |random, number| case(random, number, operations) },
+    Family { name: "shifts and splices", cases: 6_600, make: |random, number| case(random, number, shifts_and_splices) },
+    Family { name: "addresses", cases: 40_000, make: |random, number| case(random, number, addresses) },
+    Family { name: "far passes", cases: 400, make: |random, number| case(random, number, far_passes) },
+    Family { name: "one field damaged", cases: 80_000, make: |random, number| case(random, number, one_field_damaged) },
+    Family { name: "rows of edges", cases: 80_000, make: |random, number| case(random, number, rows_of_edges) },
+    Family { name: "unused fields", cases: 16_000, make: |random, number| case(random, number, unused_fields) },
+    Family { name: "section lengths", cases: 2_000, make: |random, number| case(random, number, section_lengths) },
+    Family { name: "heads", cases: 8_640, make: |random, number| case(random, number, heads) },
+    Family { name: "window lengths", cases: 3_240, make: |random, number| case(random, number, window_lengths) },
+    Family { name: "refusals together", cases: 40_000, make: |random, number| case(random, number, refusals_together) },
+    Family { name: "budgets", cases: 60_000, make: |random, number| case(random, number, budgets) },
+    Family { name: "registers", cases: 400, make: |random, number| case(random, number, registers) },
+    Family { name: "long runs", cases: 6, make: |random, number| case(random, number, long_runs) },
+    Family { name: "translated loops", cases: 8_000, make: |random, number| case(random, number, translated_loop) },
 ];
 
-// ---- rows
-
-/// An address is held with 2^31 added.
-fn held(address: i64) -> u32 {
-    (address + (1 << 31)) as u32
-}
-
-pub fn load(destination: u32, window: u32, address: i64) -> Row {
-    [1, destination, window, 0, held(address), 0]
-}
-
-pub fn splat(destination: u32, value: u64) -> Row {
-    [2, destination, 0, 0, value as u32, (value >> 32) as u32]
-}
-
-pub fn op(destination: u32, operation: u32, left: u32, right: u32) -> Row {
-    [3, destination, left, right, operation, 0]
-}
-
-pub fn pair(destination: u32, first: u32, second: u32, amount: u32) -> Row {
-    [4, destination, first, second, amount, 0]
-}
-
-pub fn splice(destination: u32, first: u32, second: u32, amount: u32) -> Row {
-    [5, destination, first, second, amount, 0]
-}
-
-pub fn store(source: u32, address: i64) -> Row {
-    [6, 0, source, 0, held(address), 0]
+fn case(random: &mut Random, number: u64, make: fn(&mut Random, u64) -> Program) -> Case {
+    let program = make(random, number);
+    Case::run(random, &program)
 }
 
 // ---- edges
@@ -276,8 +239,8 @@ impl Setting {
     }
 }
 
-/// The case of a program: a table for each section, at times longer than its rows.
-fn assemble(random: &mut Random, setting: &Setting, rows: [Vec<Row>; 3], budget: u64) -> Case {
+/// A program with its windows: a table for each section, at times longer than its rows.
+fn assemble(random: &mut Random, setting: &Setting, rows: [Vec<Row>; 3], budget: u64) -> Program {
     let head = Head {
         d: setting.d,
         f: setting.f,
@@ -294,17 +257,12 @@ fn assemble(random: &mut Random, setting: &Setting, rows: [Vec<Row>; 3], budget:
         table
     });
     let (work, table) = setting.windows(random);
-    Case { head, sections, work, table, budget }
-}
-
-/// The instructions of a whole run.
-fn whole_steps(head: &Head) -> u64 {
-    head.prologue + head.f.saturating_sub(1) * head.body + head.epilogue
+    Program { head, sections, work, table, budget }
 }
 
 // ---- the families
 
-fn sound(random: &mut Random, _: u64) -> Case {
+fn sound(random: &mut Random, _: u64) -> Program {
     let setting = Setting::usual(random);
     let rows = setting.sound_program(random, 14);
     let mut case = assemble(random, &setting, rows, u64::MAX);
@@ -315,7 +273,7 @@ fn sound(random: &mut Random, _: u64) -> Case {
 }
 
 /// Every operation at every D, lane by lane over edges and random elements; eight pairs of vectors a case.
-fn operations(random: &mut Random, number: u64) -> Case {
+fn operations(random: &mut Random, number: u64) -> Program {
     let d = WIDTHS[number as usize % 4];
     let operation = (number / 4 % 6) as u32;
     let setting = Setting { d, f: random.below(2), work: 128, table: 256 };
@@ -336,7 +294,7 @@ fn operations(random: &mut Random, number: u64) -> Case {
 }
 
 /// Every amount of both, also in place and of one register twice.
-fn shifts_and_splices(random: &mut Random, number: u64) -> Case {
+fn shifts_and_splices(random: &mut Random, number: u64) -> Program {
     let amount = (number % 33) as u32;
     let setting = Setting { d: random.pick(&WIDTHS), f: 0, work: 64, table: 64 };
     let (first, second) = random.pick(&[(0, 1), (1, 0), (0, 0), (1023, 1)]);
@@ -353,7 +311,7 @@ fn shifts_and_splices(random: &mut Random, number: u64) -> Case {
 }
 
 /// Loads at the edges of both windows and far away, each shown by a store; some stores at edges too.
-fn addresses(random: &mut Random, _: u64) -> Case {
+fn addresses(random: &mut Random, _: u64) -> Program {
     let setting = Setting {
         d: random.pick(&WIDTHS),
         f: random.pick(&[0, 1, 2, 3, 5]),
@@ -377,7 +335,7 @@ fn addresses(random: &mut Random, _: u64) -> Case {
 }
 
 /// Thousands of passes over a window: loads that enter and leave it, stores that leave it in some pass.
-fn far_passes(random: &mut Random, _: u64) -> Case {
+fn far_passes(random: &mut Random, _: u64) -> Program {
     let mut setting = Setting {
         d: random.pick(&WIDTHS),
         f: random.pick(&[257, 1000, 2046, 2047, 2048]),
@@ -397,7 +355,7 @@ fn far_passes(random: &mut Random, _: u64) -> Case {
     assemble(random, &setting, [Vec::new(), body, epilogue], u64::MAX)
 }
 
-fn one_field_damaged(random: &mut Random, _: u64) -> Case {
+fn one_field_damaged(random: &mut Random, _: u64) -> Program {
     let setting = Setting::usual(random);
     let mut rows = setting.sound_program(random, 5);
     let section = random.below(3) as usize;
@@ -409,7 +367,7 @@ fn one_field_damaged(random: &mut Random, _: u64) -> Case {
 }
 
 /// Rows whose every field is an edge of something, among sound ones.
-fn rows_of_edges(random: &mut Random, _: u64) -> Case {
+fn rows_of_edges(random: &mut Random, _: u64) -> Program {
     let setting = Setting::usual(random);
     let mut rows = setting.sound_program(random, 4);
     for row in rows.iter_mut().flatten() {
@@ -427,7 +385,7 @@ fn rows_of_edges(random: &mut Random, _: u64) -> Case {
 }
 
 /// Junk in every field that a row's kind does not use.
-fn unused_fields(random: &mut Random, _: u64) -> Case {
+fn unused_fields(random: &mut Random, _: u64) -> Program {
     let setting = Setting::usual(random);
     let mut rows = setting.sound_program(random, 6);
     for row in rows.iter_mut().flatten() {
@@ -445,7 +403,7 @@ fn unused_fields(random: &mut Random, _: u64) -> Case {
 }
 
 /// Sections of 0 to 1,025 rows, in tables shorter and longer than that.
-fn section_lengths(random: &mut Random, _: u64) -> Case {
+fn section_lengths(random: &mut Random, _: u64) -> Program {
     let mut setting = Setting::usual(random);
     setting.f = random.pick(&[0, 1, 2, 2, 3]);
     let counts = [0; 3].map(|_: u64| random.pick(&[0, 1, 2, 5, 40, 1023, 1024, 1024, 1025]));
@@ -461,7 +419,7 @@ fn section_lengths(random: &mut Random, _: u64) -> Case {
 }
 
 /// Every D of a list with every F of a list, over programs of a few rows or none.
-fn heads(random: &mut Random, number: u64) -> Case {
+fn heads(random: &mut Random, number: u64) -> Program {
     const D: [u64; 18] = [0, 1, 2, 3, 4, 5, 6, 7, 8, 9, 15, 16, 17, 257, 258, (1 << 32) + 1, (1 << 32) + 8, u64::MAX];
     const F: [u64; 12] = [0, 1, 2, 3, 2047, 2048, 2049, 2050, 65_537, 1 << 32, 1 << 63, u64::MAX];
     let mut setting = Setting::usual(random);
@@ -481,7 +439,7 @@ fn heads(random: &mut Random, number: u64) -> Case {
 }
 
 /// Every two lengths of a list, and the blocks at the ends of both windows read and written.
-fn window_lengths(random: &mut Random, number: u64) -> Case {
+fn window_lengths(random: &mut Random, number: u64) -> Program {
     let setting = Setting {
         d: random.pick(&WIDTHS),
         f: 0,
@@ -502,7 +460,7 @@ fn window_lengths(random: &mut Random, number: u64) -> Case {
 }
 
 /// Several things wrong at once, which tells the order of the checks.
-fn refusals_together(random: &mut Random, _: u64) -> Case {
+fn refusals_together(random: &mut Random, _: u64) -> Program {
     // six times the last one is 2 when it wraps
     const ROWS: [u64; 6] = [1025, 2000, 1 << 32, 1 << 63, u64::MAX, u64::MAX / 6 + 1];
     let setting = Setting::usual(random);
@@ -542,7 +500,7 @@ fn refusals_together(random: &mut Random, _: u64) -> Case {
 }
 
 /// Budgets around the step at which a program, sound or damaged, would stop.
-fn budgets(random: &mut Random, _: u64) -> Case {
+fn budgets(random: &mut Random, _: u64) -> Program {
     let setting = Setting::usual(random);
     let mut rows = setting.sound_program(random, 4);
     if random.one_in(2) {
@@ -561,7 +519,7 @@ fn budgets(random: &mut Random, _: u64) -> Case {
 }
 
 /// All the registers: written in one section, read in another, or never written.
-fn registers(random: &mut Random, _: u64) -> Case {
+fn registers(random: &mut Random, _: u64) -> Program {
     let setting = Setting { d: random.pick(&WIDTHS), f: random.pick(&[0, 1, 2, 3]), work: 16_384, table: 16_384 };
     let written = random.pick(&[0, 1, 500, 1023, 1024]);
     let prologue = (0..written)
@@ -586,7 +544,7 @@ fn registers(random: &mut Random, _: u64) -> Case {
 }
 
 /// As many steps as a run can have, or nearly.
-fn long_runs(random: &mut Random, number: u64) -> Case {
+fn long_runs(random: &mut Random, number: u64) -> Program {
     let setting = Setting {
         d: random.pick(&WIDTHS),
         f: 2048 - number % 2,
@@ -602,12 +560,11 @@ fn long_runs(random: &mut Random, number: u64) -> Case {
     case
 }
 
-/// A random loop, and the case of its program.
-pub fn translated(random: &mut Random) -> (Loop, Case) {
+/// The program of a random loop.
+fn translated_loop(random: &mut Random, _: u64) -> Program {
     let length = random.pick(&[16, 32, 48, 256, 1024, 8192, 65_536]);
-    let made = Loop::random(random, length);
-    let program = made.translated();
-    let setting = Setting { d: made.d, f: program.f, work: length, table: length };
-    let case = assemble(random, &setting, program.sections, u64::MAX);
-    (made, case)
+    let sheet = loops::random(random, length);
+    let program = Document::translated(&sheet);
+    let setting = Setting { d: sheet.d, f: program.f, work: length, table: length };
+    assemble(random, &setting, program.sections, u64::MAX)
 }

@@ -1,16 +1,18 @@
 //! The benchmark: nanoseconds an instruction for every kind and D, and a whole run of a translated loop, in the library and in
-//! a careful Rust machine. Both have the same program and windows in the same process, in turn, the best of several rounds;
+//! a careful Rust machine; then the other calls that the library has. Both have the same program and windows in the same process, in turn, the best of several rounds;
 //! windows are filled before the first round and not cleared between.
 //!
-//!     bench                the library against the careful machine
-//!     bench --independent  the tests' independent machine in the library's place
+//!     bench                the library against careful Rust (placing and translating: against the tests' independent Rust)
+//!     bench --independent  the tests' independent implementation in the library's place
 
-use outside::board::library;
+use outside::board::{library, LINKED};
+use outside::calls::{Call, ALL, INDEPENDENT};
 use outside::loops::printed;
 use outside::machine::{self, Document};
-use outside::programs::{load, op, pair, splat, splice, store};
 use outside::random::Random;
-use outside::{careful, Answer, Head, Row, Run, DONE};
+use outside::rows::{load, op, pair, splat, splice, store};
+use outside::translate::Translating;
+use outside::{careful, timings, Answer, Head, Row, Run, DONE};
 use std::hint::black_box;
 use std::process::ExitCode;
 use std::time::Instant;
@@ -113,7 +115,7 @@ fn kinds() -> Vec<(&'static str, u64, Measure)> {
 fn compare(names: [&str; 2], machines: [Run; 2]) {
     let mut kinds = kinds();
     let made = printed(4096, 0x8006);
-    let translated = made.translated();
+    let translated = Document::translated(&made);
     let mut whole = Measure::new(Program::new(made.d, translated.f, &translated.sections), 50);
 
     let mut random = Random::new(1);
@@ -142,17 +144,21 @@ fn compare(names: [&str; 2], machines: [Run; 2]) {
 
 fn main() -> ExitCode {
     let arguments: Vec<String> = std::env::args().skip(1).collect();
-    let (name, machine) = match arguments.iter().map(String::as_str).collect::<Vec<_>>()[..] {
-        [] => ("library", library()),
-        ["--independent"] => ("independent", Some(machine::run::<Document> as Run)),
+    let (name, calls) = match arguments.iter().map(String::as_str).collect::<Vec<_>>()[..] {
+        [] => ("library", library().map(|calls| (calls, LINKED))),
+        ["--independent"] => ("independent", Some((INDEPENDENT, &ALL[..]))),
         _ => {
             eprintln!("bench [--independent]");
             return ExitCode::from(2);
         }
     };
-    match machine {
-        Some(machine) => {
-            compare([name, "Rust"], [machine, careful::run]);
+    match calls {
+        Some((calls, there)) => {
+            let names = [name, "Rust"];
+            if there.contains(&Call::Run) {
+                compare(names, [calls.run, careful::run]);
+            }
+            timings::print(names, [calls, careful::CALLS], there);
             ExitCode::SUCCESS
         }
         None => {
