@@ -1,4 +1,4 @@
-use Rattle.placing.proofs.JudgeLaws.{done-placeable, room-leaves, done-leaves, refusal-leaves}
+use Rattle.placing.proofs.JudgeLaws.{done-accepted, room-leaves, done-leaves, refusal-leaves}
 use borrow.Author.Needs.{needs}
 use Rattle.placing.proofs.place.Statement.{statement}
 use Rattle.placing.proofs.place.Tie as tie
@@ -18,7 +18,7 @@ hand-back-requires c κs =
     let judged = told .before .before in
     let a = judged .before .before .before .before .before .before .before .args in
     let is-done = rw (told .enum-told2 .given .1) at (judged .judge .ensures) in
-    let ok = done-placeable (a .rule) (a .head .now) (a .nodes .now) (a .placed-head .now) (a .placed-nodes .now) is-done in
+    let ok = done-accepted (a .rule) (a .head .now) (a .nodes .now) (a .placed-head .now) (a .placed-nodes .now) is-done in
     (ok .sheet, (ok .head-room, ok .nodes-room))
 
 clear-requires : tie.Need-clear-requires
@@ -37,7 +37,8 @@ returns : tie.Need-returns
 returns c =
     let judged = c .before .before in
     let a = judged .before .before .before .before .before .before .before .args in
-    room-leaves (a .rule) (a .head .now) (a .nodes .now) (a .placed-head .now) (a .placed-nodes .now) (rw (c .enum-told .given .1) at (judged .judge .ensures))
+    let is-room = rw (c .enum-told .given .1) at (judged .judge .ensures) in
+    room-leaves (a .rule) (a .head .now) (a .nodes .now) (a .placed-head .now) (a .placed-nodes .now) is-room
 
 same-length-3 : tie.Need-same-length-3
 same-length-3 c = search needs

@@ -12,7 +12,8 @@ lacks-room-requires c κs = search needs
 returns : tie.Need-returns
 returns c =
     let a = c .before .before .before .before .before .before .args in
-    room-refused (a .rule) (a .head .now) (a .nodes .now) (a .placed-head .now) (a .placed-nodes .now) (sym (c .before .lacks-room .ensures) ∙ c .if1 .taken)
+    let short = sym (c .before .lacks-room .ensures) ∙ c .if1 .taken in
+    room-refused (a .rule) (a .head .now) (a .nodes .now) (a .placed-head .now) (a .placed-nodes .now) short
 
 returns-2 : tie.Need-returns-2
 returns-2 c =
