@@ -112,13 +112,13 @@ module _ (rule : ℕ) (head nodes placedHead placedNodes : List ℕ) where
   -- ---- by the answer
 
   -- what done says of the sheet and of the tables lent
-  pub record Placeable : Type 0 where
+  pub record Accepted : Type 0 where
     pub sheet : BareSheet (graphOf head nodes)
     pub head-room : headEntries ≤ length placedHead
     pub nodes-room : rowEntries * nodesMost ≤ length placedNodes
 
-  pub done-placeable : done ≡ found → Placeable
-  done-placeable e =
+  pub done-accepted : done ≡ found → Accepted
+  done-accepted e =
       let number : found .number ≡ DONE = ap (λ (a : Answer). a .number) (sym e) in
       let passed = each-check-done _ number in
       let room = roomy-tables (refuse-done short 0 0 (passed 0)) in

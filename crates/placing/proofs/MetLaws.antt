@@ -145,7 +145,9 @@ module _ (counts : List ℕ) (k x : ℕ) (l : Largest counts k x) where
       record {
         one = omega arith;
         often = below-more (λ (y : ℕ). getD counts y 0 ≤ getD counts k 0) k (λ y p. omega (arith, l .often y p)) (omega arith);
-        small = below-more (λ (y : ℕ). getD counts y 0 ≡ getD counts k 0 → k ≤ y) k (λ y p e. absurd (omega (arith, l .often y p))) (λ e. omega arith);
+        small =
+            below-more (λ (y : ℕ). getD counts y 0 ≡ getD counts k 0 → k ≤ y) k (λ y p e. absurd (omega (arith, l .often y p)))
+            (λ e. omega arith);
       }
 
 -- ---- rows and trees
@@ -173,7 +175,8 @@ push-met W D x (suc (suc (suc (suc zero)))) a b (t ∷ ts) met n o h e = omega (
 push-met W D x (suc (suc (suc (suc (suc k))))) a b ts met n o h e = absurd (false≢true o)
 
 module _ (W : ℕ) (g : Graph) (f : Formed W g) (before : List ℕ) where
-  waiting-met : (x k : ℕ) → k ≤ g .N → times x (metIn W (nodeAt (g .nodes)) before k) ≡ times x before + timesIn W x (waiting (nodeAt (g .nodes)) k)
+  waiting-met : (x k : ℕ) → k ≤ g .N
+      → times x (metIn W (nodeAt (g .nodes)) before k) ≡ times x before + timesIn W x (waiting (nodeAt (g .nodes)) k)
   unfolding metIn waiting nodeAt
   waiting-met x zero h = omega arith
   waiting-met x (suc k) h =
@@ -183,7 +186,8 @@ module _ (W : ℕ) (g : Graph) (f : Formed W g) (before : List ℕ) where
       (f .rows .enough k (omega arith)))
       (waiting-met x k (omega arith))
 
-  pub met-in-tree : (x : ℕ) → times x (metIn W (nodeAt (g .nodes)) before (g .N)) ≡ times x before + times x (loadOffsets W (treeOf (g .nodes) (g .N)))
+  pub met-in-tree : (x : ℕ)
+      → times x (metIn W (nodeAt (g .nodes)) before (g .N)) ≡ times x before + times x (loadOffsets W (treeOf (g .nodes) (g .N)))
   met-in-tree x = waiting-met x (g .N) (omega arith) ∙ rw (formed-one-waits W g f) (omega arith)
 
 -- ---- the one met most often

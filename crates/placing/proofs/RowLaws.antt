@@ -37,7 +37,8 @@ sets-append l i (x ∷ xs) ys = rw (add-suc i (length xs), ← suc-add i (length
 pub wrote-none : (table : List ℕ) (row : ℕ) → Wrote table row [] table row
 wrote-none table row = record { free = omega arith; table = refl }
 
-pub wrote-row : (table : List ℕ) (row : ℕ) (node : Row) → Wrote table row (node .kind ∷ node .x ∷ node .y ∷ []) (rowPut table row node) (row + 1)
+pub wrote-row : (table : List ℕ) (row : ℕ) (node : Row)
+    → Wrote table row (node .kind ∷ node .x ∷ node .y ∷ []) (rowPut table row node) (row + 1)
 wrote-row table row node =
     let second : 3 * row + 1 ≡ suc (3 * row) = omega arith in
     let third : 3 * row + 2 ≡ suc (suc (3 * row)) = omega arith in
@@ -82,7 +83,8 @@ module _ (W : ℕ) (m : Moves) (recs : List NodeRecord) (lefts : List ℕ) where
 
   module _ (k : ℕ) (r : Ready W m recs lefts (k + 1)) where
     -- the shift over a node's own tree goes by the offset in its record
-    own-rows : (to : Offset) (own : List ℕ) → rows (moved W m (treeAt (nodeIn recs) k)) ≡ own → movedRows W m recs k to ≡ own ++ shiftRow (offsetIn recs k) to
+    own-rows : (to : Offset) (own : List ℕ) → rows (moved W m (treeAt (nodeIn recs) k)) ≡ own
+        → movedRows W m recs k to ≡ own ++ shiftRow (offsetIn recs k) to
     own-rows to own e = rows-goes W to (moved W m (treeAt (nodeIn recs) k)) ∙ rw (e, r .known k (omega arith))
 
     pub load-rows : (a : LoadAt) → nodeIn recs k ≡ Load a → (to : Offset)

@@ -99,31 +99,22 @@ fn record_at(
         Node::Load(load) => {
             let here = Offset::At(ByteOffset(load.address.0 % V));
             let offset = join(loads, here);
-            NodeRecord {
-                node: node,
-                offset: offset,
-            }
+            NodeRecord { node, offset }
         }
-        Node::Splat(_) => NodeRecord {
-            node: node,
-            offset: Offset::Undefined,
-        },
+        Node::Splat(_) => {
+            let offset = Offset::Undefined;
+            NodeRecord { node, offset }
+        }
         Node::Op(_) => {
             let left = lefts[k as usize];
             let right = k - 1;
             let offset = op_offset(recs, left, right, meeting);
-            NodeRecord {
-                node: node,
-                offset: offset,
-            }
+            NodeRecord { node, offset }
         }
         Node::Shift(shift) => {
             let to = shift.to;
             let offset = Offset::At(to);
-            NodeRecord {
-                node: node,
-                offset: offset,
-            }
+            NodeRecord { node, offset }
         }
     }
 }

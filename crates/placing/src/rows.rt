@@ -52,11 +52,11 @@ fn put_shift(table: &mut [u64], row: u8, here: Offset, to: Offset) -> u8
 }
 
 // A node's row, and then a shift if it has to go elsewhere; the next row.
-fn put_node(table: &mut [u64], row: u8, node: Row, here: Offset, to: Offset) -> u8
-    requires { ⌜ rowEntries * row + length (node .kind ∷ node .x ∷ node .y ∷ shiftRow here to) ≤ rowEntries * nodesMost ⌝ }
-    ensures { λ r. ⌜ Wrote (now (table .entry)) row (node .kind ∷ node .x ∷ node .y ∷ shiftRow here to) (now (table .exit)) r ⌝ }
+fn put_node(table: &mut [u64], row: u8, kind: u64, x: u64, y: u64, here: Offset, to: Offset) -> u8
+    requires { ⌜ rowEntries * row + length (kind ∷ x ∷ y ∷ shiftRow here to) ≤ rowEntries * nodesMost ⌝ }
+    ensures { λ r. ⌜ Wrote (now (table .entry)) row (kind ∷ x ∷ y ∷ shiftRow here to) (now (table .exit)) r ⌝ }
 {
-    tables::put_row(table, row, node);
+    tables::put_row(table, row, Row { kind, x, y });
     let next = row + 1;
     put_shift(table, next, here, to)
 }
@@ -85,30 +85,10 @@ pub(crate) fn write(
             let address = load.address.0;
             let stands = Offset::At(ByteOffset(address % V));
             let loads = moves.loads;
-            let next = put_node(
-                table,
-                row,
-                Row {
-                    kind: LOAD,
-                    x: load.window,
-                    y: address,
-                },
-                stands,
-                loads,
-            );
+            let next = put_node(table, row, LOAD, load.window, address, stands, loads);
             put_shift(table, next, offset, to)
         }
-        Node::Splat(value) => put_node(
-            table,
-            row,
-            Row {
-                kind: SPLAT,
-                x: value,
-                y: 0,
-            },
-            offset,
-            to,
-        ),
+        Node::Splat(value) => put_node(table, row, SPLAT, value, 0, offset, to),
         Node::Op(operation) => {
             let left = lefts[at];
             let right = k - 1;
@@ -116,18 +96,9 @@ pub(crate) fn write(
             let meet = inputs_meet(recs, left, right, meeting);
             let middle = write(recs, lefts, moves, left, meet, row, table);
             let end = write(recs, lefts, moves, right, meet, middle, table);
-            put_node(
-                table,
-                end,
-                Row {
-                    kind: OP,
-                    x: operation,
-                    y: 0,
-                },
-                offset,
-                to,
-            )
+            put_node(table, end, OP, operation, 0, offset, to)
         }
+        // A bare sheet has none.
         Node::Shift(_) => row,
     }
 }

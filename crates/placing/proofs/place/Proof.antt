@@ -1,4 +1,4 @@
-use Rattle.placing.proofs.JudgeLaws.{done-placeable, room-leaves, done-leaves, refusal-leaves}
+use Rattle.placing.proofs.JudgeLaws.{done-accepted, room-leaves, done-leaves, refusal-leaves}
 use borrow.Author.Needs.{needs}
 use Rattle.placing.proofs.place.Statement.{statement}
 use Rattle.placing.proofs.place.Tie as tie
@@ -14,8 +14,11 @@ enum-told-2 c = search needs
 
 hand-back-requires : tie.Need-hand-back-requires
 hand-back-requires c κs =
-    let a = c .before .before .before .before .before .before .before .before .before .before .before .args in
-    let ok = done-placeable (a .rule) (a .head .now) (a .nodes .now) (a .placed-head .now) (a .placed-nodes .now) (rw (c .before .before .enum-told2 .given .1) at (c .before .before .before .before .judge .ensures)) in
+    let told = c .before .before in
+    let judged = told .before .before in
+    let a = judged .before .before .before .before .before .before .before .args in
+    let is-done = rw (told .enum-told2 .given .1) at (judged .judge .ensures) in
+    let ok = done-accepted (a .rule) (a .head .now) (a .nodes .now) (a .placed-head .now) (a .placed-nodes .now) is-done in
     (ok .sheet, (ok .head-room, ok .nodes-room))
 
 clear-requires : tie.Need-clear-requires
@@ -32,8 +35,10 @@ same-length-2 c = search needs
 
 returns : tie.Need-returns
 returns c =
-    let a = c .before .before .before .before .before .before .before .before .before .args in
-    room-leaves (a .rule) (a .head .now) (a .nodes .now) (a .placed-head .now) (a .placed-nodes .now) (rw (c .enum-told .given .1) at (c .before .before .judge .ensures))
+    let judged = c .before .before in
+    let a = judged .before .before .before .before .before .before .before .args in
+    let is-room = rw (c .enum-told .given .1) at (judged .judge .ensures) in
+    room-leaves (a .rule) (a .head .now) (a .nodes .now) (a .placed-head .now) (a .placed-nodes .now) is-room
 
 same-length-3 : tie.Need-same-length-3
 same-length-3 c = search needs
@@ -43,9 +48,13 @@ same-length-4 c = search needs
 
 returns-2 : tie.Need-returns-2
 returns-2 c =
-    let a = c .before .before .before .before .before .before .before .before .before .before .before .before .before .before .before .before .args in
-    let left = c .before .before .before .before .hand-back .ensures in
-    done-leaves (a .rule) (a .head .now) (a .nodes .now) (a .placed-head .now) (a .placed-nodes .now) _ _ (rw (c .before .before .before .before .before .before .before .enum-told2 .given .1) at (c .before .before .before .before .before .before .before .before .before .judge .ensures)) (left .0) (left .1)
+    let handed = c .before .before .before .before in
+    let told = handed .before .before .before in
+    let judged = told .before .before in
+    let a = judged .before .before .before .before .before .before .before .args in
+    let is-done = rw (told .enum-told2 .given .1) at (judged .judge .ensures) in
+    done-leaves (a .rule) (a .head .now) (a .nodes .now) (a .placed-head .now) (a .placed-nodes .now) _ _ is-done (handed .hand-back .ensures .0)
+    (handed .hand-back .ensures .1)
 
 same-length-5 : tie.Need-same-length-5
 same-length-5 c = search needs
@@ -55,8 +64,13 @@ same-length-6 c = search needs
 
 returns-3 : tie.Need-returns-3
 returns-3 c =
-    let a = c .before .before .before .before .before .before .before .before .before .before .before .before .before .before .before .before .args in
-    refusal-leaves (a .rule) (a .head .now) (a .nodes .now) (a .placed-head .now) (a .placed-nodes .now) (c .before .before .before .before .before .before .before .before .before .judge .result) _ _ (c .before .before .before .before .before .before .before .before .match .keys3) (c .before .before .before .before .before .before .before .before .before .judge .ensures) (c .before .before .before .before .before .before .clear .ensures) (c .before .before .clear2 .ensures)
+    let nodes-cleared = c .before .before in
+    let head-cleared = nodes-cleared .before .before .before .before in
+    let refused = head-cleared .before .before in
+    let judged = refused .before in
+    let a = judged .before .before .before .before .before .before .before .args in
+    refusal-leaves (a .rule) (a .head .now) (a .nodes .now) (a .placed-head .now) (a .placed-nodes .now) (judged .judge .result) _ _
+    (refused .match .keys3) (judged .judge .ensures) (head-cleared .clear .ensures) (nodes-cleared .clear2 .ensures)
 
 pub place-spec : {M : Type 1} → statement M
 place-spec =

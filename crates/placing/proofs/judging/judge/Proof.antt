@@ -12,7 +12,8 @@ lacks-room-requires c κs = search needs
 returns : tie.Need-returns
 returns c =
     let a = c .before .before .before .before .before .before .args in
-    room-refused (a .rule) (a .head .now) (a .nodes .now) (a .placed-head .now) (a .placed-nodes .now) (sym (c .before .lacks-room .ensures) ∙ c .if1 .taken)
+    let short = sym (c .before .lacks-room .ensures) ∙ c .if1 .taken in
+    room-refused (a .rule) (a .head .now) (a .nodes .now) (a .placed-head .now) (a .placed-nodes .now) short
 
 returns-2 : tie.Need-returns-2
 returns-2 c =
@@ -43,34 +44,45 @@ judge-lines-requires c κs = search needs
 
 returns-3 : tie.Need-returns-3
 returns-3 c =
-    let a = c .before .before .before .before .before .before .before .before .before .before .args in
-    let roomy = sym (c .before .before .before .before .before .lacks-room .ensures) ∙ c .before .before .before .before .if1 .left in
-    form-refused (a .rule) (a .head .now) (a .nodes .now) (a .placed-head .now) (a .placed-nodes .now) roomy (c .before .before .before .if2 .left) _ _
-    (rw (c .enum-told .given .1) at (c .before .before .check .ensures))
+    let form = c .before .before in
+    let known = form .before in
+    let roomy = known .before in
+    let a = roomy .before .before .before .before .before .before .args in
+    let room = sym (roomy .before .lacks-room .ensures) ∙ roomy .if1 .left in
+    let found = rw (c .enum-told .given .1) at (form .check .ensures) in
+    form-refused (a .rule) (a .head .now) (a .nodes .now) (a .placed-head .now) (a .placed-nodes .now) room (known .if2 .left) _ _ found
 
 returns-4 : tie.Need-returns-4
 returns-4 c =
-    let a = c .before .before .before .before .before .before .before .before .before .before .before .args in
-    let roomy = sym (c .before .before .before .before .before .before .lacks-room .ensures) ∙ c .before .before .before .before .before .if1 .left in
-    form-refused (a .rule) (a .head .now) (a .nodes .now) (a .placed-head .now) (a .placed-nodes .now) roomy (c .before .before .before .before .if2 .left) _ _
-    (rw (c .before .form .given .1) at (c .before .before .before .check .ensures))
+    let form = c .before .before .before in
+    let known = form .before in
+    let roomy = known .before in
+    let a = roomy .before .before .before .before .before .before .args in
+    let room = sym (roomy .before .lacks-room .ensures) ∙ roomy .if1 .left in
+    let found = rw (c .before .form .given .1) at (form .check .ensures) in
+    form-refused (a .rule) (a .head .now) (a .nodes .now) (a .placed-head .now) (a .placed-nodes .now) room (known .if2 .left) _ _ found
 
 returns-5 : tie.Need-returns-5
 returns-5 c =
-    let a = c .before .before .before .before .before .before .before .before .before .before .before .args in
-    let roomy = sym (c .before .before .before .before .before .before .lacks-room .ensures) ∙ c .before .before .before .before .before .if1 .left in
-    form-refused (a .rule) (a .head .now) (a .nodes .now) (a .placed-head .now) (a .placed-nodes .now) roomy (c .before .before .before .before .if2 .left) _ _
-    (rw (c .before .form2 .given .1) at (c .before .before .before .check .ensures))
+    let form = c .before .before .before in
+    let known = form .before in
+    let roomy = known .before in
+    let a = roomy .before .before .before .before .before .before .args in
+    let room = sym (roomy .before .lacks-room .ensures) ∙ roomy .if1 .left in
+    let found = rw (c .before .form2 .given .1) at (form .check .ensures) in
+    form-refused (a .rule) (a .head .now) (a .nodes .now) (a .placed-head .now) (a .placed-nodes .now) room (known .if2 .left) _ _ found
 
 returns-6 : tie.Need-returns-6
 returns-6 c =
-    let a = c .before .before .before .before .before .before .before .before .before .before .before .before .args in
-    let roomy = sym (c .before .before .before .before .before .before .before .lacks-room .ensures) ∙ c .before .before .before .before .before .before .if1 .left in
-    let known = c .before .before .before .before .before .if2 .left in
-    let passed = rw (c .before .before .enum-told2 .given .1) at (c .before .before .before .before .check .ensures) in
-    let formed = form-formed (a .rule) (a .head .now) (a .nodes .now) (a .placed-head .now) (a .placed-nodes .now) roomy known passed in
+    let form = c .before .before .before .before in
+    let known = form .before in
+    let roomy = known .before in
+    let a = roomy .before .before .before .before .before .before .args in
+    let room = sym (roomy .before .lacks-room .ensures) ∙ roomy .if1 .left in
+    let passed = rw (c .before .before .enum-told2 .given .1) at (form .check .ensures) in
+    let formed = form-formed (a .rule) (a .head .now) (a .nodes .now) (a .placed-head .now) (a .placed-nodes .now) room (known .if2 .left) passed in
     let same = header-graph vectorBytes (a .head .now) (a .nodes .now) formed in
-    lines-judged (a .rule) (a .head .now) (a .nodes .now) (a .placed-head .now) (a .placed-nodes .now) roomy known passed _
+    lines-judged (a .rule) (a .head .now) (a .nodes .now) (a .placed-head .now) (a .placed-nodes .now) room (known .if2 .left) passed _
     (rw (c .before .header-of .ensures, same) at (c .judge-lines .ensures))
 
 pub judge-spec : {M : Type 1} → statement M

@@ -29,15 +29,19 @@ returns c =
 
 returns-2 : tie.Need-returns-2
 returns-2 c =
-    let s = c .before .before .before .before .before .before .before .before in
-    align-found (graphIn (s .args .head) (s .args .nodes .now)) _ (rw (c .before .before .before .before .enum-told .given .1) at (c .before .before .before .before .before .before .bare .ensures))
-    (rw (c .before .align2 .given .1) at (c .before .before .before .align .ensures))
+    let aligned = c .before .before .before in
+    let bare = aligned .before .before .before in
+    let s = bare .before .before in
+    let none = rw (aligned .before .enum-told .given .1) at (bare .bare .ensures) in
+    align-found (graphIn (s .args .head) (s .args .nodes .now)) _ none (rw (c .before .align2 .given .1) at (aligned .align .ensures))
 
 returns-3 : tie.Need-returns-3
 returns-3 c =
-    let s = c .before .before .before .before .before .before .before in
-    none-found (graphIn (s .args .head) (s .args .nodes .now)) (rw (c .before .before .before .enum-told .given .1) at (c .before .before .before .before .before .bare .ensures))
-    (rw (c .enum-told2 .given .1) at (c .before .before .align .ensures))
+    let aligned = c .before .before in
+    let bare = aligned .before .before .before in
+    let s = bare .before .before in
+    let none = rw (aligned .before .enum-told .given .1) at (bare .bare .ensures) in
+    none-found (graphIn (s .args .head) (s .args .nodes .now)) none (rw (c .enum-told2 .given .1) at (aligned .align .ensures))
 
 pub judge-lines-spec : {M : Type 1} → statement M
 judge-lines-spec =

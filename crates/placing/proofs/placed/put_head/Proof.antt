@@ -33,16 +33,22 @@ same-length c = search needs
 
 returns : tie.Need-returns
 returns c =
-    let s = c .before .before .before .before .before .before .before .before .before .before .before .before .before .before .before .before .before .before .before .before .before .before .before .before .before in
+    let fourth = c .before .before in
+    let third = fourth .before .before .before .before in
+    let second = third .before .before .before .before in
+    let first = second .before .before .before .before in
+    let cleared = first .before .before .before .before in
+    let read = cleared .before .before in
+    let s = read .before .before .before .before .before in
     rw (
-      c .before .before .put4 .ensures,
-      c .before .before .before .before .before .before .put3 .ensures,
-      c .before .before .before .before .before .before .before .before .before .before .put2 .ensures,
-      c .before .before .before .before .before .before .before .before .before .before .before .before .before .before .put .ensures,
-      c .before .before .before .before .before .before .before .before .before .before .before .before .before .before .before .before .before .before .clear .ensures,
-      c .before .before .before .before .before .before .before .before .before .before .before .before .before .before .before .before .before .before .before .before .entry3 .ensures,
-      c .before .before .before .before .before .before .before .before .before .before .before .before .before .before .before .before .before .before .before .before .before .entry2 .ensures,
-      c .before .before .before .before .before .before .before .before .before .before .before .before .before .before .before .before .before .before .before .before .before .before .entry .ensures,
+      fourth .put4 .ensures,
+      third .put3 .ensures,
+      second .put2 .ensures,
+      first .put .ensures,
+      cleared .clear .ensures,
+      read .entry3 .ensures,
+      read .before .entry2 .ensures,
+      read .before .before .entry .ensures,
     )
     (head-handed (length (s .args .placed-head .now)) _ _ _ _ (s .pre))
 

@@ -1,5 +1,5 @@
 use Prim.Native.Nat.{_+_, _-_}
-use mathlib.Core.Path.{_≡_}
+use mathlib.Core.Path.{_≡_, ap}
 use native.Mathlib.Omega.{arith}
 use lib.ListN.{length}
 use Rattle.rules.specs.Limits.{vectorBytes}
@@ -33,17 +33,19 @@ sub-last c =
 
 write-requires : tie.Need-write-requires
 write-requires c κs =
-    let s = c .before .before .before .before .before .before .before .before .before .before .before .before .before in
+    let cleared = c .before .before .before .before in
+    let recorded = cleared .before .before in
+    let moved = recorded .before .before in
+    let s = moved .before .before .before .before .before in
     let g = graphIn (s .args .head) (s .args .nodes .now) in
-    let is = c .before .before .before .before .before .before .records .ensures in
-    let left = c .before .before .before .before .before .before .before .before .before .left-inputs .ensures in
-    let moves = c .before .before .before .before .before .before .before .before .moves-of .ensures in
-    let count : g .N - 1 + 1 ≡ g .N = omega (arith, has-last g (s .pre .0)) in
-    let room = placed-room g (s .pre .0) (s .args .rule) in (
+    let is = recorded .records .ensures in
+    let left = moved .before .left-inputs .ensures in
+    let last = last-rows g (s .pre .0) (s .args .rule) _ _ is (moved .moves-of .ensures) in
+    let count : g .N - 1 + 1 ≡ g .N = omega (arith, has-last g (s .pre .0)) in (
       omega (arith, has-last g (s .pre .0), s .pre .0 .formed .most),
       (
         rw count (sheet-ready g (s .pre .0) (s .args .rule) _ _ is _ left),
-        rw (last-rows g (s .pre .0) (s .args .rule) _ _ is moves) (omega (arith, room)),
+        omega (arith, placed-room g (s .pre .0) (s .args .rule), ap length last),
       ),
     )
 
@@ -52,14 +54,16 @@ same-length c = search needs
 
 returns : tie.Need-returns
 returns c =
-    let s = c .before .before .before .before .before .before .before .before .before .before .before .before .before .before .before .before in
+    let wrote = c .before .before in
+    let cleared = wrote .before .before .before .before .before in
+    let recorded = cleared .before .before in
+    let moved = recorded .before .before in
+    let s = moved .before .before .before .before .before in
     let g = graphIn (s .args .head) (s .args .nodes .now) in
-    let is = c .before .before .before .before .before .before .before .before .before .records .ensures in
-    let moves = c .before .before .before .before .before .before .before .before .before .before .before .moves-of .ensures in
     let len = length (s .args .placed-nodes .now) in
-    let wrote = rw (last-rows g (s .pre .0) (s .args .rule) _ _ is moves) at (c .before .before .write .ensures) in
-    let handed = rows-handed len (place vectorBytes (g .S) (s .args .rule) (graphTree g)) _ _ _ (c .before .before .before .before .before .before .before .clear .ensures)
-    (omega (arith, placed-room g (s .pre .0) (s .args .rule), s .pre .1)) wrote in
+    let last = last-rows g (s .pre .0) (s .args .rule) _ _ (recorded .records .ensures) (moved .moves-of .ensures) in
+    let handed = rows-handed len (place vectorBytes (g .S) (s .args .rule) (graphTree g)) _ _ _ (cleared .clear .ensures)
+    (omega (arith, placed-room g (s .pre .0) (s .args .rule), s .pre .1)) (rw last at (wrote .write .ensures)) in
     record { number = handed .0; table = handed .1 }
 
 pub put-rows-spec : {M : Type 1} → statement M

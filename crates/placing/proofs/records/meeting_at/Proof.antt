@@ -22,10 +22,16 @@ returns-2 : tie.Need-returns-2
 returns-2 c = search needs
 
 returns-3 : tie.Need-returns-3
-returns-3 c = rw (c .before .before .before .before .before .before .before .left .given .1, c .before .before .before .before .right .given .1, eq-eqb _ _ (c .if1 .taken))
+returns-3 c =
+    let right = c .before .before .before .before in
+    let left = right .before .before .before in
+    rw (left .left .given .1, right .right .given .1, eq-eqb _ _ (c .if1 .taken))
 
 returns-4 : tie.Need-returns-4
-returns-4 c = rw (c .before .before .before .before .before .before .before .left .given .1, c .before .before .before .before .right .given .1, ne-eqb _ _ (c .if1 .left))
+returns-4 c =
+    let right = c .before .before .before .before in
+    let left = right .before .before .before in
+    rw (left .left .given .1, right .right .given .1, ne-eqb _ _ (c .if1 .left))
 
 pub meeting-at-spec : {M : Type 1} → statement M
 meeting-at-spec =

@@ -20,8 +20,9 @@ join-requires-2 c κs = search needs
 
 returns : tie.Need-returns
 returns c =
+    let met = c .before .before in
     c .join2 .ensures
-    ∙ rw (c .before .join .ensures, c .before .before .meeting-at .ensures, c .before .before .before .offset-in2 .ensures, c .before .before .before .before .offset-in .ensures)
+    ∙ rw (c .before .join .ensures, met .meeting-at .ensures, met .before .offset-in2 .ensures, met .before .before .offset-in .ensures)
 
 pub op-offset-spec : {M : Type 1} → statement M
 op-offset-spec =

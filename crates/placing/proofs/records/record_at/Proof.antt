@@ -27,13 +27,17 @@ element-copy-out-left c = search needs
 
 sub-right : tie.Need-sub-right
 sub-right c =
-    let s = c .before .before .before .before .before .before in
-    omega (arith, op-below vectorBytes (s .args .moves) (s .args .nodes .now) (leftIn (s .args .lefts .now)) (s .args .k) (s .pre .1 .0) _ (sym (c .before .before .before .before .node-at .ensures) ∙ c .before .enum-told2 .given .1))
+    let read = c .before .before .before .before in
+    let s = read .before .before in
+    let is = sym (read .node-at .ensures) ∙ c .before .enum-told2 .given .1 in
+    omega (arith, op-below vectorBytes (s .args .moves) (s .args .nodes .now) (leftIn (s .args .lefts .now)) (s .args .k) (s .pre .1 .0) _ is)
 
 op-offset-requires : tie.Need-op-offset-requires
 op-offset-requires c κs =
-    let s = c .before .before .before .before .before .before in
-    let below = op-below vectorBytes (s .args .moves) (s .args .nodes .now) (leftIn (s .args .lefts .now)) (s .args .k) (s .pre .1 .0) _ (sym (c .before .before .before .before .node-at .ensures) ∙ c .before .enum-told2 .given .1) in
+    let read = c .before .before .before .before in
+    let s = read .before .before in
+    let is = sym (read .node-at .ensures) ∙ c .before .enum-told2 .given .1 in
+    let below = op-below vectorBytes (s .args .moves) (s .args .nodes .now) (leftIn (s .args .lefts .now)) (s .args .k) (s .pre .1 .0) _ is in
     (omega arith, omega arith)
 
 enum-known-node-2 : tie.Need-enum-known-node-2

@@ -22,7 +22,9 @@ record-at-requires : tie.Need-record-at-requires Inv-loop μ-loop
 record-at-requires c κs =
     let s = c .before .before .before in
     let l = c .before .loop in
-    (omega arith, (linked-lower (nodeAt (s .args .nodes .now)) (leftIn (s .args .lefts .now)) (s .args .count) (l .k + 1) (omega arith) (s .pre .1), l .inv .2))
+    let node = nodeAt (s .args .nodes .now) in
+    let linked = linked-lower node (leftIn (s .args .lefts .now)) (s .args .count) (l .k + 1) (omega arith) (s .pre .1) in
+    (omega arith, (linked, l .inv .2))
 
 cast-at : tie.Need-cast-at Inv-loop μ-loop
 cast-at c = search needs

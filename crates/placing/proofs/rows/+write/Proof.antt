@@ -114,8 +114,10 @@ write-put-node-requires t c κs =
 
 write-put-shift-requires : (t : ℕ) → write-lts.Need-put-shift-requires (write-calls t) (write-at t) write.Post
 write-put-shift-requires t c κs =
-    let s = c .before .before .before .before .before .before .before .before .before .before in
-    omega (arith, load-room t s _ (c .before .before .before .before .before .before .node .given .1), s .pre .1 .1 .1, c .before .before .before .put-node .ensures .free)
+    let put = c .before .before .before in
+    let node = put .before .before .before in
+    let s = node .before .before .before .before in
+    omega (arith, load-room t s _ (node .node .given .1), s .pre .1 .1 .1, put .put-node .ensures .free)
 
 write-enum-known-node-2 : (t : ℕ) → write-lts.Need-enum-known-node-2 (write-calls t) (write-at t) write.Post
 write-enum-known-node-2 t c = c .match .keys2
@@ -177,27 +179,37 @@ write-same-length t c = c .before .before .put-shift .kept .0 ∙ c .before .bef
 
 write-returns : (t : ℕ) → write-lts.Need-returns (write-calls t) (write-at t) write.Post
 write-returns t c =
-    rw (load-is t (c .before .before .before .before .before .before .before .before .before .before .before .before .before) _ (c .before .before .before .before .before .before .before .before .before .node .given .1))
-    (wrote-on (c .before .before .before .before .before .before .put-node .ensures) (c .before .before .put-shift .ensures))
+    let put = c .before .before .before .before .before .before in
+    let node = put .before .before .before in
+    let s = node .before .before .before .before in
+    rw (load-is t s _ (node .node .given .1)) (wrote-on (put .put-node .ensures) (c .before .before .put-shift .ensures))
 
 write-same-length-2 : (t : ℕ) → write-lts.Need-same-length-2 (write-calls t) (write-at t) write.Post
 write-same-length-2 t c = search needs
 
 write-returns-2 : (t : ℕ) → write-lts.Need-returns-2 (write-calls t) (write-at t) write.Post
 write-returns-2 t c =
-    rw (splat-is t (c .before .before .before .before .before .before .before .before .before) _ (c .before .before .before .before .before .node2 .given .1)) (c .before .before .put-node2 .ensures)
+    let put = c .before .before in
+    let node = put .before .before .before in
+    rw (splat-is t (node .before .before .before .before) _ (node .node2 .given .1)) (put .put-node2 .ensures)
 
 write-same-length-3 : (t : ℕ) → write-lts.Need-same-length-3 (write-calls t) (write-at t) write.Post
 write-same-length-3 t c =
-    let first = c .before .before .before .before .before .before .before .before .before .before .write .kept .1 .1 .1 .1 .1 .1 .0 in
-    let second = c .before .before .before .before .before .before .write2 .kept .1 .1 .1 .1 .1 .1 .0 in
-    c .before .before .put-node3 .kept .0 ∙ (second ∙ first)
+    let second = c .before .before .before .before .before .before in
+    let first = second .before .before .before .before in
+    let kept = second .write2 .kept .1 .1 .1 .1 .1 .1 .0 ∙ first .write .kept .1 .1 .1 .1 .1 .1 .0 in
+    c .before .before .put-node3 .kept .0 ∙ kept
 
 write-returns-3 : (t : ℕ) → write-lts.Need-returns-3 (write-calls t) (write-at t) write.Post
 write-returns-3 t c =
-    let meet = c .before .before .before .before .before .before .before .before .before .before .before .before .inputs-meet in
-    rw (op-is t (c .before .before .before .before .before .before .before .before .before .before .before .before .before .before .before .before .before .before .before .before) _ (c .before .before .before .before .before .before .before .before .before .before .before .before .before .before .before .before .node3 .given .1) (meet .result) (meet .ensures))
-    (wrote-on (wrote-on (c .before .before .before .before .before .before .before .before .before .before .write .ensures) (c .before .before .before .before .before .before .write2 .ensures)) (c .before .before .put-node3 .ensures))
+    let put = c .before .before in
+    let second = put .before .before .before .before in
+    let first = second .before .before .before .before in
+    let meet = first .before .before in
+    let node = meet .before .before .before .before in
+    let s = node .before .before .before .before in
+    rw (op-is t s _ (node .node3 .given .1) (meet .inputs-meet .result) (meet .inputs-meet .ensures))
+    (wrote-on (wrote-on (first .write .ensures) (second .write2 .ensures)) (put .put-node3 .ensures))
 
 write-returns-4 : (t : ℕ) → write-lts.Need-returns-4 (write-calls t) (write-at t) write.Post
 write-returns-4 t c =

@@ -19,7 +19,7 @@ returns : tie.Need-returns
 returns c =
     let s = c .before .before .before .before .before .before .before .before .before in
     let row = c .before .before .before .before .before .before .put-row .ensures in
-    wrote-on (rw (← row) at (wrote-row (s .args .table .now) (s .args .row) (s .args .node))) (c .before .before .put-shift .ensures)
+    wrote-on (rw (← row) at (wrote-row (s .args .table .now) (s .args .row) (record { kind = s .args .kind; x = s .args .x; y = s .args .y }))) (c .before .before .put-shift .ensures)
 
 pub put-node-spec : {M : Type 1} → statement M
 put-node-spec =

@@ -18,8 +18,10 @@ enum-known-to c = search needs
 
 returns : tie.Need-returns
 returns c =
-    let s = c .before .before .before .before .before .before .before .before .before .before in
-    rw (c .before .before .before .before .before .before .before .here .given .1, c .before .before .before .before .to .given .1, eq-eqb _ _ (c .if1 .taken)) (wrote-none (s .args .table .now) (s .args .row))
+    let to = c .before .before .before .before in
+    let here = to .before .before .before in
+    let s = here .before .before .before in
+    rw (here .here .given .1, to .to .given .1, eq-eqb _ _ (c .if1 .taken)) (wrote-none (s .args .table .now) (s .args .row))
 
 put-row-requires : tie.Need-put-row-requires
 put-row-requires c κs = search needs
@@ -42,8 +44,12 @@ same-length c = search needs
 
 returns-4 : tie.Need-returns-4
 returns-4 c =
-    let s = c .before .before .before .before .before .before .before .before .before .before .before .before .before .before in
-    rw (c .before .before .before .before .before .before .before .before .before .before .before .here .given .1, c .before .before .before .before .before .before .before .before .to .given .1, ne-eqb _ _ (c .before .before .before .before .if1 .left), c .before .before .put-row .ensures)
+    let put = c .before .before in
+    let test = put .before .before in
+    let to = test .before .before .before .before in
+    let here = to .before .before .before in
+    let s = here .before .before .before in
+    rw (here .here .given .1, to .to .given .1, ne-eqb _ _ (test .if1 .left), put .put-row .ensures)
     (wrote-row (s .args .table .now) (s .args .row) _)
 
 pub put-shift-spec : {M : Type 1} → statement M
