@@ -84,30 +84,30 @@ module _ {nodes left : List ℕ} {root S : ℕ} (r : Root nodes left root S) whe
           let b : first - 2 ≡ G t - 1 = omega arith in
           rw (a, b, at-c, f) at (then _ (written-then p q))
 
-      pub only-written : (D n : ℕ) {three after : List ℕ} {second next : ℕ}
+      pub only-written : (D n : ℕ) {len : ℕ} → len ≡ n * D → {three after : List ℕ} {second next : ℕ}
           → Written one two first second (Splice first (first - 1) (first - 2) c ∷ [])
-          → Written two three second last (Splice second first (first - 1) (c + n * D) ∷ [])
+          → Written two three second last (Splice second first (first - 1) (c + len) ∷ [])
           → Written three after last next (Store second (held vectorBytes S) ∷ [])
           → Written before after 0 next (onlySection vectorBytes S t D n)
       unfolding onlySection
-      only-written D n {second = second} p q s =
+      only-written D n l {second = second} p q s =
           let f = first-row in
           let a : first - 1 ≡ G t = omega arith in
           let b : first - 2 ≡ G t - 1 = omega arith in
           let e : second ≡ G t + 2 = omega (arith, p .rows) in
-          rw (a, b, at-c, e, f) at (then _ (written-then p (written-then q s)))
+          rw (a, b, at-c, l, e, f) at (then _ (written-then p (written-then q s)))
 
-    pub epilogue-written : (D e : ℕ) → (e ≡ 0 → ⊥) → {two after : List ℕ} {last next : ℕ}
-        → Written one two first last (Splice first (first - 2) (first - 1) (e * D) ∷ [])
+    pub epilogue-written : (D e : ℕ) → (e ≡ 0 → ⊥) → {len : ℕ} → len ≡ e * D → {two after : List ℕ} {last next : ℕ}
+        → Written one two first last (Splice first (first - 2) (first - 1) len ∷ [])
         → Written two after last next (Store first (held vectorBytes S) ∷ [])
         → Written before after 0 next (epilogueOf vectorBytes D S t e)
     unfolding epilogueSection
-    epilogue-written D zero h p q = absurd (h refl)
-    epilogue-written D (suc e) h p q =
+    epilogue-written D zero h l p q = absurd (h refl)
+    epilogue-written D (suc e) h l p q =
         let f = first-row in
         let a : first - 1 ≡ G t = omega arith in
         let b : first - 2 ≡ G t - 1 = omega arith in
-        rw (a, b, f) at (then _ (written-then p q))
+        rw (a, b, l, f) at (then _ (written-then p q))
 
   pub no-epilogue : (section : List ℕ) (D e : ℕ) → e ≡ 0 → Written section section 0 0 (epilogueOf vectorBytes D S t e)
   no-epilogue section D e h = rw h (written-none section 0)

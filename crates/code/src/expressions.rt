@@ -22,13 +22,9 @@ fn beside(by: ShiftBy, blocks: VectorNumber) -> VectorNumber
 {
     let from = by.from.0;
     let to = by.to.0;
-    if to < from {
-        let next = blocks.0 + 1;
-        VectorNumber(next)
-    } else {
-        let previous = blocks.0 - 1;
-        VectorNumber(previous)
-    }
+    let next = blocks.0 + 1;
+    let previous = blocks.0 - 1;
+    if to < from { VectorNumber(next) } else { VectorNumber(previous) }
 }
 
 // The code of node k from a row on, with so many vectors added to its addresses; the row after it. An op's left input is

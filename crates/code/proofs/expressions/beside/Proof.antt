@@ -13,11 +13,11 @@ sub-previous c = search needs
 
 returns : tie.Need-returns
 unfolding beside
-returns c = rw (lt-ltb _ _ (c .before .if1 .taken))
+returns c = rw (lt-ltb _ _ (c .if1 .taken))
 
 returns-2 : tie.Need-returns-2
 unfolding beside
-returns-2 c = rw (le-ltb _ _ (c .before .if1 .left))
+returns-2 c = rw (le-ltb _ _ (c .if1 .left))
 
 pub beside-spec : {M : Type 1} → statement M
 beside-spec = tie.close (tie.spec add-next sub-previous returns returns-2)

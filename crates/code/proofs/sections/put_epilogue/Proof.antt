@@ -67,8 +67,8 @@ returns-2 c =
     let i = b .before .before in
     let s = i .before .before .before .before in
     let n = ap (λ (x : ByteOffset). x .0) (l .byte-of-element .ensures) in
-    epilogue-written (s .pre .0) (s .pre .1) (b .put-blocks .ensures) (widthBytes (s .args .width)) (s .args .rest .0) (i .if1 .left)
-    (rw n at (p .put-splice .ensures)) (w .put-store .ensures)
+    epilogue-written (s .pre .0) (s .pre .1) (b .put-blocks .ensures) (widthBytes (s .args .width)) (s .args .rest .0) (i .if1 .left) n
+    (p .put-splice .ensures) (w .put-store .ensures)
 
 pub put-epilogue-spec : {M : Type 1} → statement M
 put-epilogue-spec =

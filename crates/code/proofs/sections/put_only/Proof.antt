@@ -90,8 +90,8 @@ returns c =
     let b = o .before .before .before in
     let s = b .before .before .before .before in
     let n = ap (λ (x : ByteOffset). x .0) (l .byte-of-element .ensures) in
-    only-written (s .pre .0) (s .pre .1) (b .put-blocks .ensures) (o .store-offset .ensures) (widthBytes (s .args .width)) (s .args .elements .0)
-    (p .put-splice .ensures) (rw n at (v .put-splice2 .ensures)) (w .put-store .ensures)
+    only-written (s .pre .0) (s .pre .1) (b .put-blocks .ensures) (o .store-offset .ensures) (widthBytes (s .args .width)) (s .args .elements .0) n
+    (p .put-splice .ensures) (v .put-splice2 .ensures) (w .put-store .ensures)
 
 pub put-only-spec : {M : Type 1} → statement M
 put-only-spec =
