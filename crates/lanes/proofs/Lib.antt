@@ -1,3 +1,2 @@
 pub mod ElementLaws
-pub mod OperationLaws
 pub mod LaneLaws

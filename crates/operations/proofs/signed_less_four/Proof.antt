@@ -2,9 +2,9 @@
 use borrow.Author.Needs.{needs}
 use mathlib.Core.Path.{refl}
 use Rattle.rules.specs.Elements.{modulus}
-use Rattle.lanes.proofs.OperationLaws.{signed-order}
-use Rattle.lanes.proofs.operations.signed_less_four.Statement.{statement}
-use Rattle.lanes.proofs.operations.signed_less_four.Tie as tie
+use Rattle.operations.proofs.OperationLaws.{signed-order}
+use Rattle.operations.proofs.signed_less_four.Statement.{statement}
+use Rattle.operations.proofs.signed_less_four.Tie as tie
 
 wrapping-add-u32-requires : tie.Need-wrapping-add-u32-requires
 wrapping-add-u32-requires c κs = search needs

@@ -1,6 +1,6 @@
 -- The six operations once over the width D: what each branch of the code gives is what `operate` says.
 -- Assumes nothing.
-use Prim.Native.Nat.{ℕ, zero, suc, _+_, _-_, _/_, _%_, _≤_, _<_}
+use Prim.Native.Nat.{ℕ, zero, suc, _+_, _-_, _/_, _%_, _≤_, _<_, min}
 use mathlib.Core.Path.{_≡_, refl, sym, _∙_}
 use mathlib.Core.Bool.{Bool, true, false, cond}
 use native.Mathlib.Omega.{arith}
@@ -97,3 +97,8 @@ signed-maximum D (suc (suc (suc (suc zero)))) x y t g h = absurd (omega arith)
 -- 5 and above are one operation
 pub above : (D o x y : ℕ) → 5 ≤ o → operate D o x y ≡ operate D 5 x y
 above D o x y g = sym (signed-maximum D o x y (signedLess D x y) g refl) ∙ signed-maximum D 5 x y (signedLess D x y) (omega arith) refl
+
+pub capped : (D o x y : ℕ) → operate D (min o 5) x y ≡ operate D o x y
+capped D o x y = split o 5
+    (λ (l : o < 5). let e : min o 5 ≡ o = omega arith in rw e)
+    (λ (l : 5 ≤ o). let e : min o 5 ≡ 5 = omega arith in rw e (sym (above D o x y l)))

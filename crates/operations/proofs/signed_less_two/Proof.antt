@@ -2,9 +2,9 @@
 use borrow.Author.Needs.{needs}
 use mathlib.Core.Path.{refl}
 use Rattle.rules.specs.Elements.{modulus}
-use Rattle.lanes.proofs.OperationLaws.{signed-order}
-use Rattle.lanes.proofs.operations.signed_less_two.Statement.{statement}
-use Rattle.lanes.proofs.operations.signed_less_two.Tie as tie
+use Rattle.operations.proofs.OperationLaws.{signed-order}
+use Rattle.operations.proofs.signed_less_two.Statement.{statement}
+use Rattle.operations.proofs.signed_less_two.Tie as tie
 
 wrapping-add-u16-requires : tie.Need-wrapping-add-u16-requires
 wrapping-add-u16-requires c κs = search needs
