@@ -114,6 +114,16 @@ pub padded-rows-read-back : (len : ℕ) (t : Tree) → treeOf (padded len (rows 
 unfolding padded
 padded-rows-read-back len t = rows-read-back t _
 
+-- what holds of kind 0 and of every kind from 5 on holds of all that are no node's
+pub no-node-kind : (P : ℕ → Type 0) → P 0 → ((k : ℕ) → P (suc (suc (suc (suc (suc k)))))) → (kind : ℕ)
+    → (kind ≡ 1 → ⊥) → (kind ≡ 2 → ⊥) → (kind ≡ 3 → ⊥) → (kind ≡ 4 → ⊥) → P kind
+no-node-kind P none other zero a b c d = none
+no-node-kind P none other (suc zero) a b c d = absurd (a refl)
+no-node-kind P none other (suc (suc zero)) a b c d = absurd (b refl)
+no-node-kind P none other (suc (suc (suc zero))) a b c d = absurd (c refl)
+no-node-kind P none other (suc (suc (suc (suc zero)))) a b c d = absurd (d refl)
+no-node-kind P none other (suc (suc (suc (suc (suc k))))) a b c d = other k
+
 -- ---- how many wait
 
 -- a node of a known kind, on enough that wait

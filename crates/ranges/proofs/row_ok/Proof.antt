@@ -1,5 +1,9 @@
+use Rattle.rules.specs.Units.{widthBytes}
 use Rattle.rules.specs.Ranges.{rowOk}
-use Rattle.ranges.proofs.RangeLaws.{other-kind}
+use Prim.Native.Nat.{ℕ}
+use mathlib.Core.Path.{_≡_, refl}
+use mathlib.Core.Bool.{false}
+use Rattle.theory.proofs.RowLaws.{no-node-kind}
 use borrow.Author.Needs.{needs}
 use Rattle.ranges.proofs.row_ok.Statement.{statement}
 use Rattle.ranges.proofs.row_ok.Tie as tie
@@ -33,9 +37,11 @@ unfolding rowOk
 returns-4 c = rw (c .before .match .keys4) (c .shift-ok .ensures)
 
 returns-5 : tie.Need-returns-5
+unfolding rowOk
 returns-5 c =
+    let a = c .before .args in
     let r = c .match .rest in
-    other-kind _ _ _ _ _ (r .0 .0 .0 .1) (r .0 .0 .1) (r .0 .1) (r .1)
+    no-node-kind (λ (kind : ℕ). false ≡ rowOk 16 (widthBytes (a .width)) kind (a .x) (a .y)) refl (λ k. refl) (a .kind) (r .0 .0 .0 .1) (r .0 .0 .1) (r .0 .1) (r .1)
 
 pub row-ok-spec : {M : Type 1} → statement M
 row-ok-spec =
