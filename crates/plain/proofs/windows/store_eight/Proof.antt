@@ -1,0 +1,36 @@
+-- `store_eight`: the lower half of the bytes, then the upper.
+use native.Mathlib.Omega.{arith}
+use mathlib.Core.Path.{_∙_}
+use Rattle.plain.proofs.WindowLaws.{stores-join}
+use borrow.Author.Needs.{needs}
+use Rattle.plain.proofs.windows.store_eight.Statement.{statement}
+use Rattle.plain.proofs.windows.store_eight.Tie as tie
+use Rattle.plain.proofs.windows.store_eight.Reads as reads
+use Rattle.plain.proofs.windows.store_eight.Lts as lts
+use Rattle.plain.proofs.windows.store_four.Reads as store-four-reads
+
+-- src/windows.rt:142:16
+add-next : tie.Need-add-next
+add-next c = search needs
+
+-- src/windows.rt:143:5
+store-four-requires : tie.Need-store-four-requires
+store-four-requires c κs = search needs
+
+-- src/windows.rt:144:5
+store-four-requires-2 : tie.Need-store-four-requires-2
+store-four-requires-2 c κs = search needs
+
+-- src/windows.rt:138:1
+same-length : tie.Need-same-length
+same-length c = search needs
+
+-- src/windows.rt:138:1
+returns : tie.Need-returns
+returns c =
+    let a = c .before .before .before .before .before .before .before .before .before .args in
+    c .before .before .store-four2 .ensures ∙ rw (c .before .before .before .before .before .before .store-four .ensures) (stores-join (a .window .now) (a .at) 4 4 (a .value) (omega arith))
+
+pub store-eight-spec : {M : Type 1} → statement M
+store-eight-spec =
+    tie.close (tie.spec add-next store-four-requires store-four-requires-2 same-length returns)

@@ -1,0 +1,3 @@
+// The plain loop (document 01, "Plain loop"): what a loop sheet means, done element by element.
+mod values;
+mod windows;
