@@ -1,1 +1,3 @@
 pub mod LinkLaws
+pub mod RowChecks
+pub mod HeaderLaws

@@ -2,22 +2,22 @@
 -- inputs' trees, and numbers fall from a node to its inputs.
 use Prim.Native.Nat.{ℕ, zero, suc, _+_, _-_, _≤_, _<_}
 use mathlib.Core.Path.{_≡_, refl, sym, ap, _∙_}
-use mathlib.Core.Bool.{true, false≢true}
-use mathlib.Core.List.{List, [], _∷_, _++_, map}
-use native.Mathlib.Nat.{le-trans}
+use mathlib.Core.List.{List, [], _∷_, map}
+use native.Mathlib.Nat.{sub-zero, zero-sub, suc-sub-suc}
+use native.Mathlib.Numerals.{add-one}
 use native.Mathlib.Omega.{arith}
-use lib.ListN.{length, getD, drop, length-drop, length-append, List·getD-append}
-use lib.Seq.{getD-drop}
+use lib.ListN.{length, getD, set, drop, length-set, length-drop, length-append, List·getD-append}
+use lib.Seq.{getD-drop, getD-set-same, getD-set-other, ext-getD}
 use Rattle.rules.specs.Limits.{nodesMost}
-use Rattle.rules.specs.Ranges.{rowOk, takes}
-use Rattle.rules.specs.Trees.{Tree, op, shift, cell, nodeOf, nodeAt, push, waiting, top, treeAt, treeOf}
+use Rattle.rules.specs.Ranges.{takes}
+use Rattle.rules.specs.Trees.{Tree, op, shift, cell, nodeOf, nodeAt, push, waiting, top, treeAt}
 use Rattle.rules.specs.Tables.{Graph}
 use Rattle.rules.specs.Checks.{waits}
 use Rattle.rules.specs.declared.nodes.Node.{Node}
 use Rattle.rules.specs.declared.nodes.Node.the-variants.{Load, Splat, Op, Shift}
 use Rattle.theory.proofs.Lists.{split, getD-past}
-use Rattle.theory.proofs.FormLaws.{Rows, Formed}
-use Rattle.graph.specs.Links.{inputs, standing, leftOf, lefts, LinkedAt, Linked}
+use Rattle.theory.proofs.FormLaws.{Formed}
+use Rattle.graph.specs.Links.{inputs, standing, listed, leftOf, lefts, LinkedAt, Linked}
 
 -- ---- numbers fall
 
@@ -106,6 +106,57 @@ module _ (node : ℕ → Node) where
       let e : k ≡ n = omega arith in
       let z : n + 0 ≡ n = omega arith in
       rw e (rw z at (getD-past (lefts node n) (leftOf node n ∷ []) n 0 (length-lefts n))))
+
+-- ---- the stack
+
+length-listed : (stack : List ℕ) (height : ℕ) → length (listed stack height) ≡ height
+length-listed stack zero = refl
+length-listed stack (suc height) = ap suc (length-listed stack height)
+
+-- what is written at i or above is not among the first i
+listed-set : (stack : List ℕ) (i v height : ℕ) → height ≤ i → listed (set stack i v) height ≡ listed stack height
+listed-set stack i v zero h = refl
+listed-set stack i v (suc height) h =
+    rw (getD-set-other stack i height v 0 (λ e. absurd (omega (arith, e))), listed-set stack i v height (omega arith))
+
+listed-drop : (stack : List ℕ) (taken height : ℕ) → drop taken (listed stack height) ≡ listed stack (height - taken)
+listed-drop stack zero height = rw (sub-zero height)
+listed-drop stack (suc taken) zero = rw (zero-sub (suc taken))
+listed-drop stack (suc taken) (suc height) = rw (suc-sub-suc height taken) (listed-drop stack taken height)
+
+pub none-stand : (node : ℕ → Node) (stack : List ℕ) → listed stack 0 ≡ standing node 0
+unfolding standing
+none-stand node stack = refl
+
+-- the stack after node k, which takes its inputs off and stands on it
+pub stack-next : (node : ℕ → Node) (k rest height : ℕ) (stack : List ℕ) → listed stack height ≡ standing node k → rest ≡ height - inputs (node k)
+    → rest < length stack → listed (set stack rest k) (rest + 1) ≡ standing node (k + 1)
+unfolding standing
+stack-next node k rest height stack e r h =
+    rw (add-one rest, add-one k, getD-set-same stack rest k 0 h, listed-set stack rest k rest (omega arith), r, ← (listed-drop stack (inputs (node k)) height), e)
+
+-- and the table of left inputs with node k's
+pub record LeftsSo (node : ℕ → Node) (k : ℕ) (left : List ℕ) : Type 0 where
+  pub long : length left ≡ nodesMost
+  pub each : (j : ℕ) → j < k → getD left j 0 ≡ leftOf node j
+
+pub lefts-none : (node : ℕ → Node) (left : List ℕ) → length left ≡ nodesMost → LeftsSo node 0 left
+lefts-none node left e = record { long = e; each = λ j h. absurd (omega arith) }
+
+pub lefts-next : (node : ℕ → Node) (k v : ℕ) (left : List ℕ) → LeftsSo node k left → k < nodesMost → v ≡ leftOf node k
+    → LeftsSo node (k + 1) (set left k v)
+lefts-next node k v left so h e =
+    record {
+      long = length-set left k v ∙ so .long;
+      each = λ j b. split j k
+          (λ (l : j < k). rw (getD-set-other left k j v 0 (λ q. absurd (omega (arith, q)))) (so .each j l))
+          (λ l. let q : j ≡ k = omega arith in rw (q, getD-set-same left k v 0 (omega (arith, so .long))) e);
+    }
+
+pub lefts-all : (node : ℕ → Node) (left : List ℕ) → LeftsSo node nodesMost left → left ≡ lefts node nodesMost
+lefts-all node left so =
+    ext-getD 0 left (lefts node nodesMost) (so .long ∙ sym (length-lefts node nodesMost))
+    (λ j h. so .each j (omega (arith, so .long)) ∙ sym (lefts-at node nodesMost j (omega (arith, so .long))))
 
 -- ---- a graph that passes
 

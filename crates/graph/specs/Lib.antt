@@ -1,1 +1,3 @@
 pub mod Links
+pub mod Headers
+pub mod Forms

@@ -20,6 +20,11 @@ unfoldable pub standing : (ℕ → Node) → ℕ → List ℕ
 standing node zero = []
 standing node (suc k) = k ∷ drop (inputs (node k)) (standing node k)
 
+-- the first so many numbers of a stack, the last first
+abbrev pub listed : List ℕ → ℕ → List ℕ
+listed stack zero = []
+listed stack (suc height) = getD stack height 0 ∷ listed stack height
+
 -- the earlier of the last two that wait before node k: an op's left input
 unfoldable pub leftOf : (ℕ → Node) → ℕ → ℕ
 leftOf node k = getD (standing node k) 1 0

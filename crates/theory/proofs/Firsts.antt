@@ -1,15 +1,18 @@
 -- Checks of items in their order: while the items so far have nothing to refuse, the answer is left to those after them; the first
 -- that refuses gives the answer of the whole list. Every loop over lines or rows is read by these laws.
-use Prim.Native.Nat.{ℕ, zero, suc, _+_, _<_}
-use mathlib.Core.Path.{_≡_}
-use mathlib.Core.List.{List, [], _∷_, _++_, append-assoc}
+use Prim.Native.Nat.{ℕ, zero, suc, _+_, _<_, min}
+use mathlib.Core.Path.{_≡_, refl, sym}
+use mathlib.Core.List.{List, [], _∷_, _++_, append-assoc, append-nil}
 use mathlib.Core.Logic.{⊎-elim}
 use native.Mathlib.Nat.{eq-or-lt-of-le, le-of-suc-le-suc}
 use native.Mathlib.Numerals.{add-one}
 use native.Mathlib.Omega.{arith}
-use Rattle.rules.specs.Answers.{Answer, at, done, first, each}
+use Rattle.rules.specs.Limits.{nodesMost}
+use Rattle.rules.specs.Answers.{Answer, at, done, first, each, orElse}
+use Rattle.rules.specs.Tables.{Graph}
+use Rattle.rules.specs.Checks.{headCheck, rowCheck, endCheck, formCheck}
 use Rattle.theory.proofs.Lists.{split}
-use Rattle.theory.proofs.FormLaws.{first-each}
+use Rattle.theory.proofs.FormLaws.{first-each, first-is-done}
 
 -- the first k items have nothing to refuse
 unfoldable pub Passed : (ℕ → Answer) → ℕ → Type 0
@@ -39,7 +42,16 @@ passed-refused check (suc n) k later number place p h e = split k n
     let q : k ≡ n = omega arith in
     rw (append-assoc (each check n) (check n ∷ []) later, first-each check n (check n ∷ later) (rw q at p), rw q at e))
 
--- a list of two: the first that refuses, or the second's answer
+-- with nothing after them
+pub passed-done : (check : ℕ → Answer) (n : ℕ) → Passed check n → first (each check n) ≡ done
+unfolding first
+passed-done check n p = rw append-nil at (passed-all check n [] p)
+
+pub passed-refuses : (check : ℕ → Answer) (n k : ℕ) (number place : ℕ) → Passed check k → k < n → check k ≡ at (suc number) place
+    → first (each check n) ≡ at (suc number) place
+passed-refuses check n k number place p h e = rw append-nil at (passed-refused check n k [] number place p h e)
+
+-- the first of a list, passed or refusing
 pub first-passed : (check : Answer) (later : List Answer) → check ≡ done → first (check ∷ later) ≡ first later
 unfolding first
 first-passed check later e = rw e
@@ -48,3 +60,16 @@ pub first-refused : (check : Answer) (later : List Answer) (number place : ℕ) 
     → first (check ∷ later) ≡ at (suc number) place
 unfolding first
 first-refused check later number place e = rw e
+
+-- a list of checks as one check of another list
+pub first-alone : (checks : List Answer) → first (first checks ∷ []) ≡ first checks
+unfolding first
+first-alone checks = go (first checks .number) refl
+  where
+    go : (number : ℕ) → first checks .number ≡ number → orElse number (first checks) done ≡ first checks
+    go zero e = sym (first-is-done checks e)
+    go (suc number) e = refl
+
+pub form-alone : (W : ℕ) (g : Graph) → first (formCheck W g ∷ []) ≡ formCheck W g
+unfolding formCheck
+form-alone W g = first-alone (headCheck g ∷ (each (rowCheck W g) (min (g .N) nodesMost) ++ endCheck g ∷ []))
