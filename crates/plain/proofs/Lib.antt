@@ -1,2 +1,3 @@
 pub mod WindowLaws
 pub mod ValueLaws
+pub mod LoopLaws

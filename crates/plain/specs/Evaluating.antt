@@ -7,6 +7,7 @@ use Rattle.rules.specs.Limits.{nodesMost, elementsMost, addressMost}
 use Rattle.rules.specs.Elements.{element, modulus}
 use Rattle.rules.specs.Trees.{nodeAt, treeAt}
 use Rattle.rules.specs.PlainLoop.{value}
+use Rattle.rules.specs.Tables.{Graph}
 use Rattle.rules.specs.Checks.{lengthOf}
 use Rattle.rules.specs.declared.nodes.Node.{Node}
 use Rattle.rules.specs.declared.nodes.Node.the-variants.{Load, Splat, Op, Shift}
@@ -26,6 +27,13 @@ pub record Evaluable (D n N : ℕ) (nodes left : List ℕ) (workLen tableLen : �
   pub most : N ≤ nodesMost
   pub linked : Linked (nodeAt nodes) (λ (k : ℕ). getD left k 0) N
   pub ranged : (k : ℕ) → k < N → Ranged D n workLen tableLen (nodeAt nodes k)
+
+-- the loop can go: there is a root, and each element that it stores lies in work
+pub record Loopable (g : Graph) (left : List ℕ) (workLen tableLen : ℕ) : Type 0 where
+  pub rooted : 0 < g .N
+  pub store : g .S ≤ addressMost
+  pub bounds : g .S + g .n * g .D ≤ workLen
+  pub evaluable : Evaluable (g .D) (g .n) (g .N) (g .nodes) left workLen tableLen
 
 -- a number is the element at an address of a window
 pub record ElementAt (D : ℕ) (w : List ℕ) (a r : ℕ) : Type 0 where
