@@ -90,7 +90,7 @@ fn op_ok(operation: u64) -> bool
 }
 
 // The width is a constant in each case: no division is left in the compiled code.
-fn is_multiple(width: Width, x: u64) -> bool
+pub fn is_multiple(width: Width, x: u64) -> bool
     ensures { λ r. ⌜ r ≡ eqb (x % widthBytes width) 0 ⌝ }
 {
     match width {
