@@ -1,7 +1,7 @@
 -- The loop: after i elements work is as the definition has it, and its length is kept, so that the next element can be evaluated
 -- and stored.
 use Prim.Native.Nat.{ℕ, zero, suc, _+_, _-_, _*_, _≤_, _<_}
-use mathlib.Core.Path.{_≡_, refl, sym, ap, _∙_}
+use mathlib.Core.Path.{_≡_, refl, _∙_}
 use mathlib.Core.List.{List}
 use native.Mathlib.Nat.{suc-mul, mul-le-mul-right}
 use native.Mathlib.Numerals.{add-one}
@@ -9,10 +9,10 @@ use native.Mathlib.Omega.{arith}
 use lib.ListN.{length}
 use lib.Seq.{paste}
 use Rattle.rules.specs.Elements.{toBytes}
-use Rattle.rules.specs.Trees.{Tree, nodeAt, treeAt, treeOf, waiting}
-use Rattle.rules.specs.PlainLoop.{plain, value}
+use Rattle.rules.specs.Trees.{Tree, nodeAt, treeAt, treeOf}
+use Rattle.rules.specs.PlainLoop.{plain}
 use Rattle.rules.specs.Tables.{Graph}
-use Rattle.rules.specs.Calls.{graphTree, graphPlain}
+use Rattle.rules.specs.Calls.{graphPlain}
 use Rattle.plain.specs.Evaluating.{Evaluable, Loopable, Valued}
 use Rattle.plain.proofs.ValueLaws.{evaluable-fewer}
 

@@ -1,15 +1,14 @@
 -- The value of a node's tree at an element is made of its inputs' values there, and is an element: a load's by its bytes, a
 -- splat's by its range, an op's by the law of the operations.
 use Prim.Native.Nat.{ℕ, zero, suc, _+_, _-_, _*_, _%_, _≤_, _<_}
-use mathlib.Core.Path.{_≡_, refl, sym, ap, _∙_}
+use mathlib.Core.Path.{_≡_, refl, _∙_}
 use mathlib.Core.List.{List}
 use native.Mathlib.Nat.{le-trans, mul-le-mul-right, mod-eq-of-lt}
 use native.Mathlib.Omega.{arith}
-use lib.ListN.{length, getD}
+use lib.ListN.{getD}
 use Rattle.rules.specs.Elements.{modulus, element, operate}
-use Rattle.rules.specs.Trees.{Tree, load, splat, op, shift, nodeAt, treeAt}
+use Rattle.rules.specs.Trees.{nodeAt}
 use Rattle.rules.specs.PlainLoop.{window, value}
-use Rattle.rules.specs.Checks.{lengthOf}
 use Rattle.rules.specs.declared.nodes.LoadAt.{LoadAt}
 use Rattle.rules.specs.declared.nodes.ShiftBy.{ShiftBy}
 use Rattle.rules.specs.declared.nodes.Node.{Node}

@@ -1,8 +1,6 @@
 -- `each_element`: the invariant is that work stands as the definition has it after i elements; the measure is what is left of n.
 use Prim.Native.Nat.{_-_}
 use native.Mathlib.Omega.{arith}
-use mathlib.Core.Path.{ap}
-use Rattle.rules.specs.declared.units.ByteOffset.{ByteOffset}
 use Rattle.rules.specs.Units.{widthBytes}
 use Rattle.rules.specs.Trees.{nodeAt, treeAt}
 use Rattle.graph.specs.Headers.{graphIn}

@@ -9,16 +9,10 @@ use Rattle.plain.proofs.ValueLaws.{window-other}
 use borrow.Author.Needs.{needs}
 use Rattle.plain.proofs.values.load_value.Statement.{statement}
 use Rattle.plain.proofs.values.load_value.Tie as tie
-use Rattle.plain.proofs.values.load_value.Reads as reads
-use Rattle.plain.proofs.values.load_value.Lts as lts
-use Rattle.plain.proofs.windows.address_of.Reads as address-of-reads
-use Rattle.plain.proofs.windows.element_at.Reads as element-at-reads
 
--- src/values.rt:27:9
 address-of-requires : tie.Need-address-of-requires
 address-of-requires c κs = search needs
 
--- src/values.rt:29:9
 element-at-requires : tie.Need-element-at-requires
 element-at-requires c κs =
     let s = c .before .before .before .before .before in
@@ -26,7 +20,6 @@ element-at-requires c κs =
     let fits = rw (c .if1 .taken) at (s .pre .1 .1) in
     omega (arith, suc-mul (s .args .i .0) (widthBytes (s .args .width)))
 
--- src/values.rt:31:9
 element-at-requires-2 : tie.Need-element-at-requires-2
 element-at-requires-2 c κs =
     let s = c .before .before .before .before .before in
@@ -36,11 +29,9 @@ element-at-requires-2 c κs =
     let fits = rw (length-of (a .load .window) (a .work .now) (a .table .now), other) at (s .pre .1 .1) in
     omega (arith, suc-mul (s .args .i .0) (widthBytes (s .args .width)))
 
--- src/values.rt:21:1
 returns : tie.Need-returns
 returns c = rw (c .before .if1 .taken) (rw (c .before .before .address-of .ensures) at (c .element-at .ensures))
 
--- src/values.rt:21:1
 returns-2 : tie.Need-returns-2
 returns-2 c =
     let a = c .before .before .before .before .before .before .args in

@@ -5,33 +5,24 @@ use Rattle.theory.proofs.ElementLaws.{element-join}
 use borrow.Author.Needs.{needs}
 use Rattle.plain.proofs.windows.eight_at.Statement.{statement}
 use Rattle.plain.proofs.windows.eight_at.Tie as tie
-use Rattle.plain.proofs.windows.eight_at.Reads as reads
-use Rattle.plain.proofs.windows.eight_at.Lts as lts
-use Rattle.plain.proofs.windows.four_at.Reads as four-at-reads
 
--- src/windows.rt:94:16
 add-next : tie.Need-add-next
 add-next c = search needs
 
--- src/windows.rt:95:9
 four-at-requires : tie.Need-four-at-requires
 four-at-requires c κs = search needs
 
--- src/windows.rt:96:9
 four-at-requires-2 : tie.Need-four-at-requires-2
 four-at-requires-2 c κs = search needs
 
--- src/windows.rt:97:11
 mul-result : tie.Need-mul-result
 unfolding modulus
 mul-result c = omega arith
 
--- src/windows.rt:97:5
 add-result : tie.Need-add-result
 unfolding modulus
 add-result c = omega arith
 
--- src/windows.rt:90:1
 returns : tie.Need-returns
 unfolding modulus
 returns c =

@@ -3,66 +3,48 @@ use native.Mathlib.Omega.{arith}
 use borrow.Author.Needs.{needs}
 use Rattle.plain.proofs.windows.element_at.Statement.{statement}
 use Rattle.plain.proofs.windows.element_at.Tie as tie
-use Rattle.plain.proofs.windows.element_at.Reads as reads
-use Rattle.plain.proofs.windows.element_at.Lts as lts
-use Rattle.plain.proofs.windows.eight_at.Reads as eight-at-reads
-use Rattle.plain.proofs.windows.four_at.Reads as four-at-reads
-use Rattle.plain.proofs.windows.one_at.Reads as one-at-reads
-use Rattle.plain.proofs.windows.two_at.Reads as two-at-reads
 
--- src/windows.rt:106:23
 enum-told : tie.Need-enum-told
 enum-told c = search needs
 
--- src/windows.rt:106:23
 one-at-requires : tie.Need-one-at-requires
 one-at-requires c κs =
     let h = rw (c .enum-told .given .1) at (c .before .before .before .pre) in
     omega arith
 
--- src/windows.rt:107:23
 enum-told-2 : tie.Need-enum-told-2
 enum-told-2 c = search needs
 
--- src/windows.rt:107:23
 two-at-requires : tie.Need-two-at-requires
 two-at-requires c κs =
     let h = rw (c .enum-told2 .given .1) at (c .before .before .before .pre) in
     omega arith
 
--- src/windows.rt:108:24
 enum-told-3 : tie.Need-enum-told-3
 enum-told-3 c = search needs
 
--- src/windows.rt:108:24
 four-at-requires : tie.Need-four-at-requires
 four-at-requires c κs =
     let h = rw (c .enum-told3 .given .1) at (c .before .before .before .pre) in
     omega arith
 
--- src/windows.rt:109:25
 enum-told-4 : tie.Need-enum-told-4
 enum-told-4 c = search needs
 
--- src/windows.rt:109:25
 eight-at-requires : tie.Need-eight-at-requires
 eight-at-requires c κs =
     let h = rw (c .enum-told4 .given .1) at (c .before .before .before .pre) in
     omega arith
 
--- src/windows.rt:100:1
 returns : tie.Need-returns
 returns c = rw (c .before .enum-told .given .1) (c .one-at .ensures)
 
--- src/windows.rt:100:1
 returns-2 : tie.Need-returns-2
 returns-2 c = rw (c .before .enum-told2 .given .1) (c .two-at .ensures)
 
--- src/windows.rt:100:1
 returns-3 : tie.Need-returns-3
 returns-3 c = rw (c .before .enum-told3 .given .1) (c .four-at .ensures)
 
--- src/windows.rt:100:1
 returns-4 : tie.Need-returns-4
 returns-4 c = rw (c .before .enum-told4 .given .1) (c .eight-at .ensures)
 

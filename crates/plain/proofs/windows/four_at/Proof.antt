@@ -5,33 +5,24 @@ use Rattle.theory.proofs.ElementLaws.{element-join}
 use borrow.Author.Needs.{needs}
 use Rattle.plain.proofs.windows.four_at.Statement.{statement}
 use Rattle.plain.proofs.windows.four_at.Tie as tie
-use Rattle.plain.proofs.windows.four_at.Reads as reads
-use Rattle.plain.proofs.windows.four_at.Lts as lts
-use Rattle.plain.proofs.windows.two_at.Reads as two-at-reads
 
--- src/windows.rt:84:16
 add-next : tie.Need-add-next
 add-next c = search needs
 
--- src/windows.rt:85:9
 two-at-requires : tie.Need-two-at-requires
 two-at-requires c κs = search needs
 
--- src/windows.rt:86:9
 two-at-requires-2 : tie.Need-two-at-requires-2
 two-at-requires-2 c κs = search needs
 
--- src/windows.rt:87:11
 mul-result : tie.Need-mul-result
 unfolding modulus
 mul-result c = omega arith
 
--- src/windows.rt:87:5
 add-result : tie.Need-add-result
 unfolding modulus
 add-result c = omega arith
 
--- src/windows.rt:80:1
 returns : tie.Need-returns
 unfolding modulus
 returns c =

@@ -5,19 +5,13 @@ use Rattle.theory.proofs.ElementLaws.{element-one}
 use borrow.Author.Needs.{needs}
 use Rattle.plain.proofs.windows.one_at.Statement.{statement}
 use Rattle.plain.proofs.windows.one_at.Tie as tie
-use Rattle.plain.proofs.windows.one_at.Reads as reads
-use Rattle.plain.proofs.windows.one_at.Lts as lts
-use Rattle.plain.proofs.windows.wide.Reads as wide-reads
 
--- src/windows.rt:67:10
 shared-slice-read-wide : tie.Need-shared-slice-read-wide
 shared-slice-read-wide c = search needs
 
--- src/windows.rt:67:5
 wide-requires : tie.Need-wide-requires
 wide-requires c κs = search needs
 
--- src/windows.rt:63:1
 returns : tie.Need-returns
 unfolding modulus
 returns c =

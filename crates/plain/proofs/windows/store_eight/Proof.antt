@@ -5,27 +5,19 @@ use Rattle.plain.proofs.WindowLaws.{stores-join}
 use borrow.Author.Needs.{needs}
 use Rattle.plain.proofs.windows.store_eight.Statement.{statement}
 use Rattle.plain.proofs.windows.store_eight.Tie as tie
-use Rattle.plain.proofs.windows.store_eight.Reads as reads
-use Rattle.plain.proofs.windows.store_eight.Lts as lts
-use Rattle.plain.proofs.windows.store_four.Reads as store-four-reads
 
--- src/windows.rt:142:16
 add-next : tie.Need-add-next
 add-next c = search needs
 
--- src/windows.rt:143:5
 store-four-requires : tie.Need-store-four-requires
 store-four-requires c κs = search needs
 
--- src/windows.rt:144:5
 store-four-requires-2 : tie.Need-store-four-requires-2
 store-four-requires-2 c κs = search needs
 
--- src/windows.rt:138:1
 same-length : tie.Need-same-length
 same-length c = search needs
 
--- src/windows.rt:138:1
 returns : tie.Need-returns
 returns c =
     let a = c .before .before .before .before .before .before .before .before .before .args in

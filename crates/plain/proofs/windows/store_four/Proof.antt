@@ -5,27 +5,19 @@ use Rattle.plain.proofs.WindowLaws.{stores-join}
 use borrow.Author.Needs.{needs}
 use Rattle.plain.proofs.windows.store_four.Statement.{statement}
 use Rattle.plain.proofs.windows.store_four.Tie as tie
-use Rattle.plain.proofs.windows.store_four.Reads as reads
-use Rattle.plain.proofs.windows.store_four.Lts as lts
-use Rattle.plain.proofs.windows.store_two.Reads as store-two-reads
 
--- src/windows.rt:133:16
 add-next : tie.Need-add-next
 add-next c = search needs
 
--- src/windows.rt:134:5
 store-two-requires : tie.Need-store-two-requires
 store-two-requires c κs = search needs
 
--- src/windows.rt:135:5
 store-two-requires-2 : tie.Need-store-two-requires-2
 store-two-requires-2 c κs = search needs
 
--- src/windows.rt:129:1
 same-length : tie.Need-same-length
 same-length c = search needs
 
--- src/windows.rt:129:1
 returns : tie.Need-returns
 returns c =
     let a = c .before .before .before .before .before .before .before .before .before .args in
