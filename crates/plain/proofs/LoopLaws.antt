@@ -34,26 +34,25 @@ begins D S n t work table = record { some = omega arith; long = refl; so = refl 
 abbrev root : Graph → Tree
 root g = treeAt (nodeAt (g .nodes)) (g .N - 1)
 
-module _ (g : Graph) (left work₀ table : List ℕ) (c : Loopable g left (length work₀) (length table)) (i : ℕ) (work : List ℕ)
-    (a : After (g .D) (g .S) (g .n) (root g) work₀ table i work) (more : i < g .n) where
+module _ {g : Graph} {left work₀ table work : List ℕ} {i : ℕ} (c : Loopable g left (length work₀) (length table))
+    (a : After (g .D) (g .S) (g .n) (root g) work₀ table i work) where
   -- element i can be evaluated
-  pub next-evaluable : Evaluable (g .D) (suc i) (suc (g .N - 1)) (g .nodes) left (length work) (length table)
-  next-evaluable = rw (a .long) (evaluable-fewer (c .evaluable) (suc i) (suc (g .N - 1)) more (omega (arith, c .rooted)))
+  pub next-evaluable : i < g .n → Evaluable (g .D) (suc i) (suc (g .N - 1)) (g .nodes) left (length work) (length table)
+  next-evaluable more = rw (a .long) (evaluable-fewer (c .evaluable) (suc i) (suc (g .N - 1)) more (omega (arith, c .rooted)))
 
   -- and stored
-  pub next-fits : g .S + i * g .D + g .D ≤ length work
-  next-fits = omega (arith, a .long, c .bounds, mul-le-mul-right (g .D) more, suc-mul i (g .D))
+  pub next-fits : i < g .n → g .S + i * g .D + g .D ≤ length work
+  next-fits more = omega (arith, a .long, c .bounds, mul-le-mul-right (g .D) more, suc-mul i (g .D))
 
-  pub next-after : (found : ℕ) (then : List ℕ) → Valued (g .D) i (g .N - 1) (g .nodes) work table found
+  pub next-after : {found : ℕ} {then : List ℕ} → i < g .n → Valued (g .D) i (g .N - 1) (g .nodes) work table found
       → length then ≡ length work → then ≡ paste work (g .S + i * g .D) (toBytes (g .D) found) (g .D)
       → After (g .D) (g .S) (g .n) (root g) work₀ table (i + 1) then
   unfolding plain
-  next-after found then v l e =
+  next-after more v l e =
       let w = a .so in
       record { some = omega arith; long = l ∙ a .long; so = rw (add-one i, ← w) (e ∙ rw (v .is)) }
 
-pub ends : (g : Graph) (left work₀ table : List ℕ) → Loopable g left (length work₀) (length table) → (i : ℕ) (work : List ℕ)
-    → After (g .D) (g .S) (g .n) (root g) work₀ table i work → g .n ≤ i → work ≡ graphPlain g work₀ table
-ends g left work₀ table c i work a h =
-    let e : i ≡ g .n = omega (arith, a .some) in
-    a .so ∙ rw (e, root-tree (g .nodes) (g .N) (c .rooted))
+  pub ends : g .n ≤ i → work ≡ graphPlain g work₀ table
+  ends h =
+      let e : i ≡ g .n = omega (arith, a .some) in
+      a .so ∙ rw (e, root-tree (g .nodes) (g .N) (c .rooted))

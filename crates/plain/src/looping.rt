@@ -26,10 +26,11 @@ pub(crate) fn each_element(
     let root = header.count - 1;
     let mut i: u64 = 0;
     while i < elements {
+        let next = i + 1;
         let number = ElementNumber(i);
         let found = values::value(nodes, left, root, number, width, &work[..], table);
         let at = windows::address_of(store, width, number);
         windows::store_element(work, at, width, found);
-        i = i + 1;
+        i = next;
     }
 }

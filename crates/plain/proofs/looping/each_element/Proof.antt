@@ -3,7 +3,6 @@ use Prim.Native.Nat.{_-_}
 use native.Mathlib.Omega.{arith}
 use Rattle.rules.specs.Units.{widthBytes}
 use Rattle.rules.specs.Trees.{nodeAt, treeAt}
-use Rattle.graph.specs.Headers.{graphIn}
 use Rattle.plain.proofs.LoopLaws.{After, begins, next-evaluable, next-fits, next-after, ends}
 use Rattle.plain.proofs.looping.each_element.Statement.{statement}
 use Rattle.plain.proofs.looping.each_element.Tie as tie
@@ -21,17 +20,19 @@ sub-root c = omega (arith, c .before .before .before .before .before .pre .roote
 loop-holds : tie.Need-loop-holds Inv-loop μ-loop
 loop-holds c = begins _ _ _ _ _ _
 
+add-next : tie.Need-add-next Inv-loop μ-loop
+add-next c = omega arith
+
 value-requires : tie.Need-value-requires Inv-loop μ-loop
 value-requires c κs =
     let s = c .before .before .before .before .before .before .before .before in
     let l = c .before .before .loop in
     let test = c .before .loop-test .taken in
-    next-evaluable (graphIn (s .args .header) (s .args .nodes .now)) (s .args .left .now) (s .args .work .now) (s .args .table .now) (s .pre) (l .i) (l .work) (l .inv) test
+    next-evaluable (s .pre) (l .inv) test
 
 address-of-requires : tie.Need-address-of-requires Inv-loop μ-loop
 address-of-requires c κs =
     let s = c .before .before .before .before .before .before .before .before .before in
-    let l = c .before .before .before .loop in
     let test = c .before .before .loop-test .taken in
     (omega (arith, s .pre .evaluable .few), s .pre .store)
 
@@ -40,14 +41,7 @@ store-element-requires c κs =
     let s = c .before .before .before .before .before .before .before .before .before .before .before in
     let l = c .before .before .before .before .before .loop in
     let test = c .before .before .before .before .loop-test .taken in
-    rw (c .before .address-of .ensures) (next-fits (graphIn (s .args .header) (s .args .nodes .now)) (s .args .left .now) (s .args .work .now) (s .args .table .now) (s .pre) (l .i) (l .work) (l .inv) test)
-
-add-i : tie.Need-add-i Inv-loop μ-loop
-add-i c =
-    let s = c .before .before .before .before .before .before .before .before .before .before .before .before .before .before in
-    let l = c .before .before .before .before .before .before .before .before .loop in
-    let test = c .before .before .before .before .before .before .before .loop-test .taken in
-    omega (arith, s .pre .evaluable .few)
+    rw (c .before .address-of .ensures) (next-fits (s .pre) (l .inv) test)
 
 loop-less : tie.Need-loop-less Inv-loop μ-loop
 loop-less c = omega arith
@@ -57,8 +51,10 @@ loop-again c =
     let s = c .before .before .before .before .before .before .before .before .before .before .before .before .before .before in
     let l = c .before .before .before .before .before .before .before .before .loop in
     let test = c .before .before .before .before .before .before .before .loop-test .taken in
-    next-after (graphIn (s .args .header) (s .args .nodes .now)) (s .args .left .now) (s .args .work .now) (s .args .table .now) (s .pre) (l .i) (l .work) (l .inv) test
-    (c .before .before .before .before .before .value .result) _ (c .before .before .before .before .before .value .ensures) (c .before .before .store-element .kept .0) (rw (c .before .before .before .before .address-of .ensures) at (c .before .before .store-element .ensures))
+    next-after (s .pre) (l .inv) test
+    (c .before .before .before .before .before .value .ensures)
+    (c .before .before .store-element .kept .0)
+    (rw (c .before .before .before .before .address-of .ensures) at (c .before .before .store-element .ensures))
 
 same-length : tie.Need-same-length Inv-loop μ-loop
 same-length c = c .before .loop .inv .long
@@ -67,7 +63,7 @@ returns : tie.Need-returns Inv-loop μ-loop
 returns c =
     let s = c .before .before .before .before .before .before .before in
     let l = c .before .loop in
-    ends (graphIn (s .args .header) (s .args .nodes .now)) (s .args .left .now) (s .args .work .now) (s .args .table .now) (s .pre) (l .i) (l .work) (l .inv) (c .loop-test .left)
+    ends (s .pre) (l .inv) (c .loop-test .left)
 
 pub each-element-spec : {M : Type 1} → statement M
 each-element-spec =
@@ -77,10 +73,10 @@ each-element-spec =
     μ-loop
     sub-root
     loop-holds
+    add-next
     value-requires
     address-of-requires
     store-element-requires
-    add-i
     loop-less
     loop-again
     same-length
