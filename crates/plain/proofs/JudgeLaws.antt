@@ -20,7 +20,7 @@ use Rattle.rules.specs.Ranges.{headOk, loadOk, splatOk, rowOk}
 use Rattle.rules.specs.Trees.{cell, nodeOf, nodeAt}
 use Rattle.rules.specs.Answers.{Answer, DONE, done, at, first, ofPlain}
 use Rattle.rules.specs.Tables.{Graph, graphOf}
-use Rattle.rules.specs.Checks.{lengthOf, windowCheck, alignCheck, boundsCheck}
+use Rattle.rules.specs.Checks.{lengthOf, boundsCheck}
 use Rattle.rules.specs.Calls.{checking, plainAnswer, graphPlain, looping}
 use Rattle.rules.specs.declared.answers.PlainAnswer.{PlainAnswer}
 use Rattle.rules.specs.declared.answers.PlainAnswer.the-variants as Plain
@@ -33,7 +33,7 @@ use Rattle.graph.specs.Links.{lefts}
 use Rattle.graph.specs.Headers.{headerOf, graphIn}
 use Rattle.graph.proofs.LinkLaws.{lefts-at, formed-linked}
 use Rattle.graph.proofs.HeaderLaws.{header-graph}
-use Rattle.plain.specs.Looping.{looped}
+use Rattle.plain.specs.Looping.{looped, formedAnswer}
 use Rattle.plain.specs.Evaluating.{Ranged, Loopable}
 
 -- ---- a row in range, whose load lies in its window
@@ -91,12 +91,12 @@ module _ (head nodes : List ℕ) (workLen tableLen : ℕ) where
 
   -- a form that passes: its header has all of its graph, and the other checks give the answer
   pub form-passed : checking vectorBytes head nodes ≡ done → (answer : Answer)
-      → answer ≡ first (windowCheck vectorBytes workLen tableLen ∷ alignCheck (graphIn (headerOf head) nodes) ∷ boundsCheck (graphIn (headerOf head) nodes) workLen tableLen ∷ [])
-      → answer ≡ plainAnswer vectorBytes head nodes workLen tableLen
+      → answer ≡ formedAnswer (graphIn (headerOf head) nodes) workLen tableLen → answer ≡ plainAnswer vectorBytes head nodes workLen tableLen
   form-passed e answer h =
       let f : Formed vectorBytes g = checking-formed (ap (λ (a : Answer). a .number) e) in
-      let later : Graph → Answer = λ (g : Graph). first (windowCheck vectorBytes workLen tableLen ∷ alignCheck g ∷ boundsCheck g workLen tableLen ∷ []) in
-      h ∙ ap later (header-graph vectorBytes head nodes f) ∙ sym (first-passed (checking vectorBytes head nodes) _ e)
+      h
+      ∙ ap (λ (g : Graph). formedAnswer g workLen tableLen) (header-graph vectorBytes head nodes f)
+      ∙ sym (first-passed (checking vectorBytes head nodes) _ e)
 
   pub done-loopable : done ≡ plainAnswer vectorBytes head nodes workLen tableLen
       → Loopable (graphIn (headerOf head) nodes) (lefts (nodeAt nodes) nodesMost) workLen tableLen

@@ -54,35 +54,35 @@ module _ {D i k workLen tableLen : ℕ} {nodes left : List ℕ} (e : Evaluable D
     here-ranged : Ranged D (suc i) workLen tableLen node
     here-ranged = rw n at (e .ranged k (omega arith))
 
-  pub load-ranged : (a : LoadAt) → nodeAt nodes k ≡ Load a → Ranged D (suc i) workLen tableLen (Load a)
-  load-ranged a n = here-ranged (Load a) n
+  pub load-ranged : {a : LoadAt} → nodeAt nodes k ≡ Load a → Ranged D (suc i) workLen tableLen (Load a)
+  load-ranged {a} n = here-ranged (Load a) n
 
-  pub load-valued : {work table : List ℕ} (a : LoadAt) → nodeAt nodes k ≡ Load a → (r : ℕ)
+  pub load-valued : {a : LoadAt} {work table : List ℕ} {r : ℕ} → nodeAt nodes k ≡ Load a
       → ElementAt D (window (a .window) work table) (a .address .0 + i * D) r → Valued D i k nodes work table r
   unfolding value
-  load-valued a n r p = record { is = rw (here-linked (Load a) n) (p .is); fits = p .fits }
+  load-valued {a} n p = record { is = rw (here-linked (Load a) n) (p .is); fits = p .fits }
 
-  pub splat-valued : {work table : List ℕ} (v : ℕ) → nodeAt nodes k ≡ Splat v → Valued D i k nodes work table v
+  pub splat-valued : {v : ℕ} {work table : List ℕ} → nodeAt nodes k ≡ Splat v → Valued D i k nodes work table v
   unfolding value
-  splat-valued v n = record { is = rw (here-linked (Splat v) n); fits = here-ranged (Splat v) n }
+  splat-valued {v} n = record { is = rw (here-linked (Splat v) n); fits = here-ranged (Splat v) n }
 
-  pub op-falls : (o : ℕ) → nodeAt nodes k ≡ Op o → getD left k 0 < k
-  op-falls o n = here-linked (Op o) n .0
+  pub op-falls : {o : ℕ} → nodeAt nodes k ≡ Op o → getD left k 0 < k
+  op-falls {o} n = here-linked (Op o) n .0
 
-  pub op-valued : {work table : List ℕ} (o : ℕ) → nodeAt nodes k ≡ Op o → (x y r : ℕ) → Valued D i (getD left k 0) nodes work table x
+  pub op-valued : {o : ℕ} {work table : List ℕ} {x y r : ℕ} → nodeAt nodes k ≡ Op o → Valued D i (getD left k 0) nodes work table x
       → Valued D i (k - 1) nodes work table y → r ≡ operate D o (x % modulus D) (y % modulus D) → Valued D i k nodes work table r
   unfolding value
-  op-valued o n x y r p q h =
+  op-valued {o} {x = x} {y = y} {r = r} n p q h =
       let w : r ≡ operate D o x y = h ∙ rw (mod-eq-of-lt (p .fits), mod-eq-of-lt (q .fits)) in
       record {
         is = rw (here-linked (Op o) n .1, ← p .is, ← q .is) w;
         fits = rw w (operate-lt D o x y (p .fits) (q .fits));
       }
 
-  pub shift-falls : (s : ShiftBy) → nodeAt nodes k ≡ Shift s → 0 < k
-  shift-falls s n = here-linked (Shift s) n .0
+  pub shift-falls : {s : ShiftBy} → nodeAt nodes k ≡ Shift s → 0 < k
+  shift-falls {s} n = here-linked (Shift s) n .0
 
-  pub shift-valued : {work table : List ℕ} (s : ShiftBy) → nodeAt nodes k ≡ Shift s → (r : ℕ) → Valued D i (k - 1) nodes work table r
+  pub shift-valued : {s : ShiftBy} {work table : List ℕ} {r : ℕ} → nodeAt nodes k ≡ Shift s → Valued D i (k - 1) nodes work table r
       → Valued D i k nodes work table r
   unfolding value
-  shift-valued s n r p = record { is = rw (here-linked (Shift s) n .1) (p .is); fits = p .fits }
+  shift-valued {s} n p = record { is = rw (here-linked (Shift s) n .1) (p .is); fits = p .fits }

@@ -4,16 +4,15 @@ use graph::Header;
 use rules::answers::CheckAnswer;
 use rules::answers::PlainAnswer;
 ghost use mathlib.Core.Path.{_≡_};
-ghost use mathlib.Core.List.{[], _∷_};
 ghost use Rattle.rules.specs.Limits.{vectorBytes};
-ghost use Rattle.rules.specs.Answers.{first, ofPlain};
-ghost use Rattle.rules.specs.Checks.{windowCheck, alignCheck, boundsCheck};
+ghost use Rattle.rules.specs.Answers.{ofPlain};
 ghost use Rattle.rules.specs.Calls.{plainAnswer};
 ghost use Rattle.graph.specs.Headers.{graphIn};
+ghost use Rattle.plain.specs.Looping.{formedAnswer};
 
 // Of a graph whose form passed: WINDOW, ALIGN, BOUNDS.
 fn judge_windows(header: Header, nodes: &[u64], work_len: u64, table_len: u64) -> PlainAnswer
-    ensures { λ r. ⌜ ofPlain r ≡ first (windowCheck vectorBytes «work_len» «table_len» ∷ alignCheck (graphIn header (now (nodes .entry))) ∷ boundsCheck (graphIn header (now (nodes .entry))) «work_len» «table_len» ∷ []) ⌝ }
+    ensures { λ r. ⌜ ofPlain r ≡ formedAnswer (graphIn header (now (nodes .entry))) «work_len» «table_len» ⌝ }
 {
     if let Found::At(place) = checks::windows(work_len, table_len) {
         return PlainAnswer::Window(place);

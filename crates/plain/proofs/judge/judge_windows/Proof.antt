@@ -27,8 +27,10 @@ enum-known-line c = search needs
 
 returns-2 : tie.Need-returns-2
 returns-2 c =
-    let w = sym (rw (c .before .before .before .before .enum-told .given .1) at (c .before .before .before .before .before .before .windows .ensures)) in
-    sym (first-passed _ _ w ∙ first-refused _ _ 6 _ (sym (rw (c .before .line .given .1) at (c .before .before .before .align .ensures))))
+    let a = c .before .before .before in
+    let w = a .before .before .before in
+    let windows = sym (rw (a .before .enum-told .given .1) at (w .windows .ensures)) in
+    sym (first-passed _ _ windows ∙ first-refused _ _ 6 _ (sym (rw (c .before .line .given .1) at (a .align .ensures))))
 
 enum-told-2 : tie.Need-enum-told-2
 enum-told-2 c = search needs
@@ -41,19 +43,25 @@ enum-known-line-2 c = search needs
 
 returns-3 : tie.Need-returns-3
 returns-3 c =
-    let w = sym (rw (c .before .before .before .before .before .before .before .enum-told .given .1) at (c .before .before .before .before .before .before .before .before .before .windows .ensures)) in
-    let a = sym (rw (c .before .before .before .before .enum-told2 .given .1) at (c .before .before .before .before .before .before .align .ensures)) in
-    sym (first-passed _ _ w ∙ first-passed _ _ a ∙ first-refused _ _ 7 _ (sym (rw (c .before .line2 .given .1) at (c .before .before .before .bounds .ensures))))
+    let b = c .before .before .before in
+    let a = b .before .before .before in
+    let w = a .before .before .before in
+    let windows = sym (rw (a .before .enum-told .given .1) at (w .windows .ensures)) in
+    let align = sym (rw (b .before .enum-told2 .given .1) at (a .align .ensures)) in
+    sym (first-passed _ _ windows ∙ first-passed _ _ align ∙ first-refused _ _ 7 _ (sym (rw (c .before .line2 .given .1) at (b .bounds .ensures))))
 
 enum-told-3 : tie.Need-enum-told-3
 enum-told-3 c = search needs
 
 returns-4 : tie.Need-returns-4
 returns-4 c =
-    let w = sym (rw (c .before .before .before .before .before .before .enum-told .given .1) at (c .before .before .before .before .before .before .before .before .windows .ensures)) in
-    let a = sym (rw (c .before .before .before .enum-told2 .given .1) at (c .before .before .before .before .before .align .ensures)) in
-    let i = sym (rw (c .enum-told3 .given .1) at (c .before .before .bounds .ensures)) in
-    all-passed _ _ _ w a i
+    let b = c .before .before in
+    let a = b .before .before .before in
+    let w = a .before .before .before in
+    let windows = sym (rw (a .before .enum-told .given .1) at (w .windows .ensures)) in
+    let align = sym (rw (b .before .enum-told2 .given .1) at (a .align .ensures)) in
+    let bounds = sym (rw (c .enum-told3 .given .1) at (b .bounds .ensures)) in
+    all-passed _ _ _ windows align bounds
 
 pub judge-windows-spec : {M : Type 1} → statement M
 judge-windows-spec =

@@ -47,7 +47,7 @@ value-load-value-requires : (t : ℕ) → value-lts.Need-load-value-requires (ca
 value-load-value-requires t c κs =
     let s = c .before .before .before .before .before .before .before in
     let n = sym (c .before .before .before .node-at .ensures) ∙ c .before .node .given .1 in
-    (omega (arith, s .pre .1 .few), load-ranged (s .pre .1) (c .before .node .given .0 .0) n)
+    (omega (arith, s .pre .1 .few), load-ranged (s .pre .1) n)
 
 value-enum-known-node-2 : (t : ℕ) → value-lts.Need-enum-known-node-2 (calls t) (value-at t) value.Post
 value-enum-known-node-2 t c = c .match .keys2
@@ -62,20 +62,20 @@ value-value-requires : (t : ℕ) → value-lts.Need-value-requires (calls t) (va
 value-value-requires t c κs =
     let s = c .before .before .before .before .before .before .before .before in
     let n = sym (c .before .before .before .before .node-at .ensures) ∙ c .before .before .node3 .given .1 in
-    let below = op-falls (s .pre .1) (c .before .before .node3 .given .0 .0) n in
+    let below = op-falls (s .pre .1) n in
     (omega arith, evaluable-fewer (s .pre .1) (suc (s .args .i .0)) (suc (getD (s .args .left .now) (s .args .k) 0)) (omega arith) (omega arith))
 
 value-sub-value : (t : ℕ) → value-lts.Need-sub-value (calls t) (value-at t) value.Post
 value-sub-value t c =
     let s = c .before .before .before .before .before .before .before .before .before in
     let n = sym (c .before .before .before .before .before .node-at .ensures) ∙ c .before .before .before .node3 .given .1 in
-    omega (arith, op-falls (s .pre .1) (c .before .before .before .node3 .given .0 .0) n)
+    omega (arith, op-falls (s .pre .1) n)
 
 value-value-requires-2 : (t : ℕ) → value-lts.Need-value-requires-2 (calls t) (value-at t) value.Post
 value-value-requires-2 t c κs =
     let s = c .before .before .before .before .before .before .before .before .before in
     let n = sym (c .before .before .before .before .before .node-at .ensures) ∙ c .before .before .before .node3 .given .1 in
-    let below = op-falls (s .pre .1) (c .before .before .before .node3 .given .0 .0) n in
+    let below = op-falls (s .pre .1) n in
     (omega arith, evaluable-fewer (s .pre .1) (suc (s .args .i .0)) (suc (s .args .k - 1)) (omega arith) (omega arith))
 
 value-operate-requires : (t : ℕ) → value-lts.Need-operate-requires (calls t) (value-at t) value.Post
@@ -88,38 +88,38 @@ value-sub-value-2 : (t : ℕ) → value-lts.Need-sub-value-2 (calls t) (value-at
 value-sub-value-2 t c =
     let s = c .before .before .before .before .before .before in
     let n = sym (c .before .before .node-at .ensures) ∙ c .enum-told .given .1 in
-    omega (arith, shift-falls (s .pre .1) (c .enum-told .given .0 .0) n)
+    omega (arith, shift-falls (s .pre .1) n)
 
 value-value-requires-3 : (t : ℕ) → value-lts.Need-value-requires-3 (calls t) (value-at t) value.Post
 value-value-requires-3 t c κs =
     let s = c .before .before .before .before .before .before in
     let n = sym (c .before .before .node-at .ensures) ∙ c .enum-told .given .1 in
-    let below = shift-falls (s .pre .1) (c .enum-told .given .0 .0) n in
+    let below = shift-falls (s .pre .1) n in
     (omega arith, evaluable-fewer (s .pre .1) (suc (s .args .i .0)) (suc (s .args .k - 1)) (omega arith) (omega arith))
 
 value-returns : (t : ℕ) → value-lts.Need-returns (calls t) (value-at t) value.Post
 value-returns t c =
     let s = c .before .before .before .before .before .before .before .before in
     let n = sym (c .before .before .before .before .node-at .ensures) ∙ c .before .before .node .given .1 in
-    load-valued (s .pre .1) (c .before .before .node .given .0 .0) n (c .load-value .result) (c .load-value .ensures)
+    load-valued (s .pre .1) n (c .load-value .ensures)
 
 value-returns-2 : (t : ℕ) → value-lts.Need-returns-2 (calls t) (value-at t) value.Post
 value-returns-2 t c =
     let s = c .before .before .before .before .before .before .before in
     let n = sym (c .before .before .before .node-at .ensures) ∙ c .before .node2 .given .1 in
-    splat-valued (s .pre .1) (c .before .node2 .given .0 .0) n
+    splat-valued (s .pre .1) n
 
 value-returns-3 : (t : ℕ) → value-lts.Need-returns-3 (calls t) (value-at t) value.Post
 value-returns-3 t c =
     let s = c .before .before .before .before .before .before .before .before .before .before .before in
     let n = sym (c .before .before .before .before .before .before .before .node-at .ensures) ∙ c .before .before .before .before .before .node3 .given .1 in
-    op-valued (s .pre .1) (c .before .before .before .before .before .node3 .given .0 .0) n (c .before .before .value .result) (c .before .value2 .result) (c .operate .result) (c .before .before .value .ensures) (c .before .value2 .ensures) (c .operate .ensures)
+    op-valued (s .pre .1) n (c .before .before .value .ensures) (c .before .value2 .ensures) (c .operate .ensures)
 
 value-returns-4 : (t : ℕ) → value-lts.Need-returns-4 (calls t) (value-at t) value.Post
 value-returns-4 t c =
     let s = c .before .before .before .before .before .before .before in
     let n = sym (c .before .before .before .node-at .ensures) ∙ c .before .enum-told .given .1 in
-    shift-valued (s .pre .1) (c .before .enum-told .given .0 .0) n (c .value3 .result) (c .value3 .ensures)
+    shift-valued (s .pre .1) n (c .value3 .ensures)
 
 pub +value-spec : {M : Type 1} → statement M
 +value-spec =
