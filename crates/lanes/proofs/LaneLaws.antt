@@ -11,8 +11,8 @@ use Rattle.rules.specs.Elements.{toBytes, element, operate}
 use Rattle.rules.specs.Vectors.{lanes, vop, vsplice}
 use Rattle.theory.proofs.Lists.{split, length-lanes, getD-lanes, getD-pastˡ, splice-right}
 use Rattle.theory.proofs.Numbers.{Bytes, length-toBytes}
-use Rattle.lanes.proofs.ElementLaws.{element-one, toBytes-mod, toBytes-halves, toBytes-doubled}
-use Rattle.lanes.proofs.OperationLaws.{above}
+use Rattle.theory.proofs.ElementLaws.{element-one, toBytes-mod, toBytes-halves, toBytes-doubled}
+use Rattle.operations.proofs.OperationLaws.{above}
 
 -- the first n places of r are as f says
 pub record Filled (n : ℕ) (f : ℕ → ℕ) (r : List ℕ) : Type 0 where

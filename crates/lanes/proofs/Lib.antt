@@ -1,4 +1,2 @@
-pub mod ElementLaws
-pub mod OperationLaws
 pub mod LaneLaws
 pub mod PairLaws

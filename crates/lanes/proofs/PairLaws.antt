@@ -12,7 +12,7 @@ use Rattle.rules.specs.Elements.{toBytes, element, modulus}
 use Rattle.rules.specs.Vectors.{vshiftpair}
 use Rattle.theory.proofs.Lists.{split}
 use Rattle.theory.proofs.Numbers.{Bytes, pow-pos, modulus-is}
-use Rattle.lanes.proofs.ElementLaws.{element-join, element-above, element-lower, element-left, element-right, toBytes-mod, toBytes-join, toBytes-element}
+use Rattle.theory.proofs.ElementLaws.{element-join, element-above, element-lower, element-left, element-right, toBytes-mod, toBytes-join, toBytes-element}
 use Rattle.lanes.proofs.LaneLaws.{joined-left, joined-right}
 
 -- the element that starts m bytes into the lower of two neighbours of m + e bytes

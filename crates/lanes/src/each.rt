@@ -13,13 +13,12 @@ use crate::elements::TWO;
 use crate::elements::TWOS;
 use crate::elements::VECTOR_BYTES;
 use crate::elements::Vector;
-use crate::operations;
-use crate::operations::ADD;
-use crate::operations::MAXIMUM;
-use crate::operations::MINIMUM;
-use crate::operations::SIGNED_MAXIMUM;
-use crate::operations::SIGNED_MINIMUM;
-use crate::operations::SUBTRACT;
+use operations::ADD;
+use operations::MAXIMUM;
+use operations::MINIMUM;
+use operations::SIGNED_MAXIMUM;
+use operations::SIGNED_MINIMUM;
+use operations::SUBTRACT;
 
 fn each_one<'a>(operation: u32, v1: &'a Vector, v2: &'a Vector) -> Vector
     ensures { λ r. ⌜ r ≡ vop vectorBytes 1 operation (now (v1 .entry)) (now (v2 .entry)) ⌝ }

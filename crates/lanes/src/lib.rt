@@ -1,7 +1,6 @@
 // The vector unit's operations on vectors of sixteen bytes, by value. Every function answers for every argument.
 mod each;
 mod elements;
-mod operations;
 mod reorder;
 mod splats;
 

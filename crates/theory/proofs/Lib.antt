@@ -1,4 +1,5 @@
 pub mod Numbers
+pub mod ElementLaws
 pub mod Lists
 pub mod Passing
 pub mod Stream

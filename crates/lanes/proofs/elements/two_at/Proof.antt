@@ -1,7 +1,7 @@
 -- `two_at`: two bytes, the lower first.
 use native.Mathlib.Omega.{arith}
 use borrow.Author.Needs.{needs}
-use Rattle.lanes.proofs.ElementLaws.{element-one, element-join}
+use Rattle.theory.proofs.ElementLaws.{element-one, element-join}
 use Prim.Native.Nat.{_+_}
 use Rattle.lanes.proofs.elements.two_at.Statement.{statement}
 use Rattle.lanes.proofs.elements.two_at.Tie as tie

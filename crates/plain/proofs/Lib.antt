@@ -1,0 +1,5 @@
+pub mod WindowLaws
+pub mod ValueLaws
+pub mod LoopLaws
+pub mod JudgeLaws
+pub mod Outcomes
