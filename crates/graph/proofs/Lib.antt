@@ -1,3 +1,4 @@
 pub mod LinkLaws
 pub mod RowChecks
 pub mod HeaderLaws
+pub mod Outcomes

@@ -158,6 +158,16 @@ lefts-all node left so =
     ext-getD 0 left (lefts node nodesMost) (so .long ∙ sym (length-lefts node nodesMost))
     (λ j h. so .each j (omega (arith, so .long)) ∙ sym (lefts-at node nodesMost j (omega (arith, so .long))))
 
+-- ---- what is linked
+
+pub linked-node : (node : ℕ → Node) (left : ℕ → ℕ) (k : ℕ) → Linked node left (k + 1) → (n : Node) → node k ≡ n → LinkedAt node left k n
+unfolding Linked
+linked-node node left k l n e = rw e at (l k (omega arith))
+
+pub linked-lower : (node : ℕ → Node) (left : ℕ → ℕ) (n k : ℕ) → k ≤ n → Linked node left n → Linked node left k
+unfolding Linked
+linked-lower node left n k h l j p = l j (omega arith)
+
 -- ---- a graph that passes
 
 node-takes : (kind x y : ℕ) → inputs (nodeOf kind x y) ≡ takes kind
@@ -186,3 +196,7 @@ formed-linked W g f left l k h =
     enough : (j : ℕ) → j < g .N → inputs (nodeAt (g .nodes) j) ≤ length (standing (nodeAt (g .nodes)) j)
     enough j p =
         rw (length-standing (g .nodes) j) (rw (← (node-takes (cell (g .nodes) j 0) (cell (g .nodes) j 1) (cell (g .nodes) j 2))) at (f .rows .enough j p))
+
+-- the table of left inputs, of a graph that passes
+pub lefts-linked : (W : ℕ) (g : Graph) → Formed W g → Linked (nodeAt (g .nodes)) (λ (j : ℕ). getD (lefts (nodeAt (g .nodes)) nodesMost) j 0) (g .N)
+lefts-linked W g f = formed-linked W g f _ (λ k h. lefts-at (nodeAt (g .nodes)) nodesMost k (omega (arith, f .most)))

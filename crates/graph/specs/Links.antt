@@ -34,6 +34,10 @@ unfoldable pub lefts : (ℕ → Node) → ℕ → List ℕ
 lefts node zero = []
 lefts node (suc k) = lefts node k ++ leftOf node k ∷ []
 
+-- an op's left input, by the table of left inputs
+abbrev pub leftIn : List ℕ → ℕ → ℕ
+leftIn left k = getD left k 0
+
 -- node k and its inputs: numbers fall from a node to its inputs, and its tree is made of theirs
 abbrev pub LinkedAt : (node : ℕ → Node) (left : ℕ → ℕ) (k : ℕ) → Node → Type 0
 LinkedAt node left k (Load a) = treeAt node k ≡ load (a .window) (a .address .0)

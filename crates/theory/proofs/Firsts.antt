@@ -1,7 +1,7 @@
 -- Checks of items in their order: while the items so far have nothing to refuse, the answer is left to those after them; the first
 -- that refuses gives the answer of the whole list. Every loop over lines or rows is read by these laws.
 use Prim.Native.Nat.{ℕ, zero, suc, _+_, _<_, min}
-use mathlib.Core.Path.{_≡_, refl, sym}
+use mathlib.Core.Path.{_≡_, refl, sym, ap}
 use mathlib.Core.List.{List, [], _∷_, _++_, append-assoc, append-nil}
 use mathlib.Core.Logic.{⊎-elim}
 use native.Mathlib.Nat.{eq-or-lt-of-le, le-of-suc-le-suc}
@@ -9,10 +9,11 @@ use native.Mathlib.Numerals.{add-one}
 use native.Mathlib.Omega.{arith}
 use Rattle.rules.specs.Limits.{nodesMost}
 use Rattle.rules.specs.Answers.{Answer, at, done, first, each, orElse}
-use Rattle.rules.specs.Tables.{Graph}
+use Rattle.rules.specs.Tables.{Graph, graphOf}
 use Rattle.rules.specs.Checks.{headCheck, rowCheck, endCheck, formCheck}
+use Rattle.rules.specs.Calls.{checking}
 use Rattle.theory.proofs.Lists.{split}
-use Rattle.theory.proofs.FormLaws.{first-each, first-is-done}
+use Rattle.theory.proofs.FormLaws.{Formed, first-each, first-is-done, each-check-done, passes-formed}
 
 -- the first k items have nothing to refuse
 unfoldable pub Passed : (ℕ → Answer) → ℕ → Type 0
@@ -73,3 +74,8 @@ first-alone checks = go (first checks .number) refl
 pub form-alone : (W : ℕ) (g : Graph) → first (formCheck W g ∷ []) ≡ formCheck W g
 unfolding formCheck
 form-alone W g = first-alone (headCheck g ∷ (each (rowCheck W g) (min (g .N) nodesMost) ++ endCheck g ∷ []))
+
+-- a sheet or graph that is checked and not refused
+pub checked-formed : (W : ℕ) (head nodes : List ℕ) → checking W head nodes ≡ done → Formed W (graphOf head nodes)
+unfolding checking
+checked-formed W head nodes e = passes-formed W (graphOf head nodes) (each-check-done _ (ap (λ (a : Answer). a .number) e) 1)

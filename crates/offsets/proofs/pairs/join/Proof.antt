@@ -1,6 +1,7 @@
+-- Each case.
 use borrow.Author.Needs.{needs}
-use Rattle.placing.proofs.records.join.Statement.{statement}
-use Rattle.placing.proofs.records.join.Tie as tie
+use Rattle.offsets.proofs.pairs.join.Statement.{statement}
+use Rattle.offsets.proofs.pairs.join.Tie as tie
 
 enum-told : tie.Need-enum-told
 enum-told c = search needs
@@ -9,7 +10,7 @@ enum-known-a : tie.Need-enum-known-a
 enum-known-a c = search needs
 
 returns : tie.Need-returns
-returns c = search needs
+returns c = rw (c .enum-told .given .1)
 
 returns-2 : tie.Need-returns-2
 returns-2 c = rw (c .before .a .given .1)

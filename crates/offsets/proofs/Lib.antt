@@ -1,0 +1,3 @@
+pub mod JudgeLaws
+pub mod CheckLaws
+pub mod Outcomes
