@@ -22,12 +22,12 @@ use Rattle.theory.proofs.FormLaws.{some-row}
 use Rattle.theory.proofs.Checked.{sixteen, bare-done, bare-count, graph-unshifted}
 use Rattle.theory.proofs.PlacedSize.{place-count}
 use Rattle.theory.proofs.Placed.{Unshifted}
-use Rattle.graph.specs.Links.{lefts, Linked}
-use Rattle.graph.proofs.LinkLaws.{lefts-at, formed-linked}
+use Rattle.graph.specs.Links.{leftIn, lefts, Linked}
+use Rattle.graph.proofs.LinkLaws.{lefts-linked}
 use Rattle.placing.specs.declared.rule.Moves.{Moves}
 use Rattle.placing.specs.Moves.{at, goes, moved, moves, movesOf}
 use Rattle.placing.specs.Writing.{Wrote}
-use Rattle.placing.specs.Records.{nodeIn, leftIn, movedRows, Recorded, NoShift, Ready}
+use Rattle.placing.specs.Records.{nodeIn, movedRows, Recorded, NoShift, Ready}
 use Rattle.placing.specs.Handing.{BareSheet}
 use Rattle.placing.proofs.MoveLaws.{place-moved}
 use Rattle.placing.proofs.RecordLaws.{same-tree, recorded-ready}
@@ -67,9 +67,7 @@ module _ (g : Graph) (b : BareSheet g) where
   has-last = some-row vectorBytes (g .D) (g .N) (g .nodes) (b .formed .rows)
 
   pub sheet-linked : (left : List ℕ) → left ≡ lefts node nodesMost → Linked node (leftIn left) (g .N)
-  sheet-linked left e =
-      formed-linked vectorBytes g (b .formed) (leftIn left)
-      (λ k h. rw e (lefts-at node nodesMost k (omega (arith, b .formed .most))))
+  sheet-linked left e = rw e (lefts-linked vectorBytes g (b .formed))
 
   unshifted : Unshifted (graphTree g)
   unshifted = graph-unshifted vectorBytes sixteen g (b .formed) [] [] (b .bare)

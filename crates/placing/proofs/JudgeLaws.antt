@@ -18,7 +18,7 @@ use Rattle.rules.specs.declared.answers.PlaceAnswer.{PlaceAnswer}
 use Rattle.rules.specs.declared.answers.PlaceAnswer.the-variants as Place
 use Rattle.rules.proofs.answers.PlaceAnswer.{the-type}
 use Rattle.theory.proofs.FormLaws.{Formed, passes-formed, first-done, each-check-done, refuse-done, neither}
-use Rattle.theory.proofs.Firsts.{first-passed, first-refused}
+use Rattle.theory.proofs.Firsts.{first-passed, first-refused, checked-formed}
 use Rattle.placing.specs.Handing.{BareSheet, tablesShort, linesAnswer, sheetGiven}
 
 -- ---- a list of one check
@@ -103,7 +103,7 @@ module _ (rule : ℕ) (head nodes placedHead placedNodes : List ℕ) where
       form-passed e = first-done (formCheck vectorBytes g) [] (ap (λ (a : Answer). a .number) (sym (e ∙ checked))) .0
 
       pub form-formed : done ≡ checking vectorBytes head nodes → Formed vectorBytes g
-      form-formed e = passes-formed vectorBytes g (form-passed e)
+      form-formed e = checked-formed vectorBytes head nodes (sym e)
 
       pub lines-judged : done ≡ checking vectorBytes head nodes → (answer : Answer) → answer ≡ linesAnswer g → answer ≡ found
       lines-judged e answer l =

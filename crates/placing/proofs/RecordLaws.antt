@@ -1,6 +1,6 @@
 -- The record of a node is made of its inputs' records, since its tree is made of their trees; and records that agree with a table
 -- carry the same trees, so what is linked in the table is linked in the records.
-use Prim.Native.Nat.{ℕ, zero, suc, _+_, _-_, _%_, _≤_, _<_}
+use Prim.Native.Nat.{ℕ, zero, suc, _+_, _-_, _%_, _<_}
 use mathlib.Core.Path.{_≡_, refl, sym, ap, ap₂, _∙_}
 use mathlib.Core.List.{List}
 use native.Mathlib.Omega.{arith}
@@ -16,21 +16,15 @@ use Rattle.rules.specs.declared.nodes.Node.the-variants.{Load, Splat, Op, Shift
 use Rattle.rules.specs.declared.nodes.Offset.{Offset}
 use Rattle.rules.specs.declared.nodes.Offset.the-variants.{At, Undefined}
 use Rattle.rules.specs.declared.nodes.NodeRecord.{NodeRecord}
-use Rattle.graph.specs.Links.{LinkedAt, Linked}
+use Rattle.graph.specs.Links.{leftIn, Linked, LinkedAt}
+use Rattle.graph.proofs.LinkLaws.{linked-node}
 use Rattle.placing.specs.declared.rule.Moves.{Moves}
 use Rattle.placing.specs.Moves.{at, opOffset, moved}
-use Rattle.placing.specs.Records.{noRecord, nodeIn, offsetIn, leftIn, movedOffset, recordOf, Recorded, NoShift, Ready}
+use Rattle.offsets.specs.Judging.{noRecord, offsetIn}
+use Rattle.placing.specs.Records.{nodeIn, movedOffset, recordOf, Recorded, NoShift, Ready}
 use Rattle.placing.proofs.MoveLaws.{load-offset, op-offset}
 
 -- ---- one node and its inputs
-
-pub linked-node : (node : ℕ → Node) (left : ℕ → ℕ) (k : ℕ) → Linked node left (k + 1) → (n : Node) → node k ≡ n → LinkedAt node left k n
-unfolding Linked
-linked-node node left k l n e = rw e at (l k (omega arith))
-
-pub linked-lower : (node : ℕ → Node) (left : ℕ → ℕ) (n k : ℕ) → k ≤ n → Linked node left n → Linked node left k
-unfolding Linked
-linked-lower node left n k h l j p = l j (omega arith)
 
 module _ (W : ℕ) (m : Moves) (nodes : List ℕ) (left : ℕ → ℕ) (k : ℕ) (l : Linked (nodeAt nodes) left (k + 1)) where
   pub load-known : (a : LoadAt) → nodeAt nodes k ≡ Load a → join (m .loads) (at (a .address .0 % W)) ≡ movedOffset W m (nodeAt nodes) k

@@ -25,8 +25,10 @@ use Rattle.tables.specs.Rows.{rowPut}
 use Rattle.placing.specs.declared.rule.Moves.{Moves}
 use Rattle.placing.specs.Moves.{at, goes, meetingAt, moved}
 use Rattle.placing.specs.Writing.{shiftRow, Wrote}
-use Rattle.placing.specs.Records.{nodeIn, offsetIn, leftIn, movedOffset, movedRows, NoShift, Ready}
-use Rattle.placing.proofs.RecordLaws.{linked-node, linked-lower}
+use Rattle.graph.specs.Links.{leftIn}
+use Rattle.offsets.specs.Judging.{offsetIn}
+use Rattle.placing.specs.Records.{nodeIn, movedOffset, movedRows, NoShift, Ready}
+use Rattle.graph.proofs.LinkLaws.{linked-node, linked-lower}
 
 -- ---- writing
 

@@ -3,30 +3,19 @@ use Prim.Native.Nat.{ℕ, _<_}
 use mathlib.Core.Path.{_≡_}
 use mathlib.Core.List.{List}
 use lib.ListN.{getD}
-use Rattle.rules.specs.Trees.{bytes, nodeAt, treeAt, rows}
+use Rattle.rules.specs.Trees.{nodeAt, treeAt, rows}
 use Rattle.rules.specs.Offsets.{offset}
 use Rattle.rules.specs.declared.nodes.Node.{Node}
 use Rattle.rules.specs.declared.nodes.Node.the-variants.{Load, Splat, Op, Shift}
 use Rattle.rules.specs.declared.nodes.Offset.{Offset}
-use Rattle.rules.specs.declared.nodes.Offset.the-variants.{At}
 use Rattle.rules.specs.declared.nodes.NodeRecord.{NodeRecord}
-use Rattle.graph.specs.Links.{Linked}
+use Rattle.graph.specs.Links.{leftIn, Linked}
+use Rattle.offsets.specs.Judging.{noRecord, offsetIn}
 use Rattle.placing.specs.declared.rule.Moves.{Moves}
 use Rattle.placing.specs.Moves.{goes, moved}
 
--- what stands past the last record
-abbrev pub noRecord : NodeRecord
-noRecord = record { node = Load (record { window = 0; address = bytes 0 }); offset = At (bytes 0) }
-
 abbrev pub nodeIn : List NodeRecord → ℕ → Node
 nodeIn recs k = getD recs k noRecord .node
-
-abbrev pub offsetIn : List NodeRecord → ℕ → Offset
-offsetIn recs k = getD recs k noRecord .offset
-
--- an op's left input, by the table of left inputs
-abbrev pub leftIn : List ℕ → ℕ → ℕ
-leftIn lefts k = getD lefts k 0
 
 -- the offset of node k's placed tree
 abbrev pub movedOffset : (W : ℕ) → Moves → (ℕ → Node) → ℕ → Offset

@@ -1,7 +1,9 @@
 // The nodes of a bare sheet, each with the offset that its placed tree has. A node's inputs come before it, so one pass in the
-// order of the table knows them all.
+// order of the table knows them all. Records go by value: functions over a lent array of structs would have to be walked by hand.
 use crate::rule::Moves;
 use crate::rule::V;
+use offsets::agree;
+use offsets::join;
 use rules::nodes::Node;
 use rules::nodes::NodeRecord;
 use rules::nodes::Offset;
@@ -10,38 +12,19 @@ ghost use mathlib.Core.Path.{_≡_};
 ghost use Prim.Native.Nat.{_+_, _≤_, _<_};
 ghost use Rattle.rules.specs.Limits.{vectorBytes, nodesMost};
 ghost use Rattle.rules.specs.Trees.{nodeAt};
-ghost use Rattle.rules.specs.Offsets.{join};
-ghost use Rattle.graph.specs.Links.{Linked};
+ghost use Rattle.graph.specs.Links.{leftIn, Linked};
 ghost use Rattle.placing.specs.Moves.{meetingAt, opOffset};
-ghost use Rattle.placing.specs.Records.{offsetIn, leftIn, recordOf, Recorded};
-
-// The defined one of two offsets; of two that are defined the first.
-fn join(a: Offset, b: Offset) -> Offset
-    ensures { λ r. ⌜ r ≡ join a b ⌝ }
-{
-    match a {
-        Offset::Undefined => b,
-        Offset::At(x) => Offset::At(x),
-    }
-}
+ghost use Rattle.offsets.specs.Judging.{offsetIn};
+ghost use Rattle.placing.specs.Records.{recordOf, Recorded};
 
 // Where the two inputs of an op go: nowhere if they agree, else to where they meet.
 fn meeting_at(meeting: ByteOffset, left: Offset, right: Offset) -> Offset
     ensures { λ r. ⌜ r ≡ meetingAt (meeting .0) left right ⌝ }
 {
-    match left {
-        Offset::Undefined => Offset::Undefined,
-        Offset::At(x) => match right {
-            Offset::Undefined => Offset::Undefined,
-            Offset::At(y) => {
-                if x.0 == y.0 {
-                    Offset::Undefined
-                } else {
-                    Offset::At(meeting)
-                }
-            }
-        },
+    if agree(left, right) {
+        return Offset::Undefined;
     }
+    Offset::At(meeting)
 }
 
 fn offset_in(recs: [NodeRecord; 64], k: u8) -> Offset

@@ -1,7 +1,7 @@
 use mathlib.Core.Path.{sym, _∙_}
 use native.Mathlib.Omega.{arith}
 use Rattle.rules.specs.Limits.{vectorBytes}
-use Rattle.placing.specs.Records.{leftIn}
+use Rattle.graph.specs.Links.{leftIn}
 use Rattle.placing.proofs.RecordLaws.{load-known, splat-known, shift-known, op-below, op-known, record-is}
 use borrow.Author.Needs.{needs}
 use Rattle.placing.proofs.records.record_at.Statement.{statement}

@@ -4,8 +4,10 @@ use native.Mathlib.Omega.{arith}
 use lib.ListN.{length, length-set}
 use borrow.Author.Needs.{needs}
 use Rattle.rules.specs.Trees.{nodeAt}
-use Rattle.placing.specs.Records.{leftIn, Recorded}
-use Rattle.placing.proofs.RecordLaws.{linked-lower, recorded-none, recorded-next}
+use Rattle.graph.specs.Links.{leftIn}
+use Rattle.placing.specs.Records.{Recorded}
+use Rattle.graph.proofs.LinkLaws.{linked-lower}
+use Rattle.placing.proofs.RecordLaws.{recorded-none, recorded-next}
 use Rattle.placing.proofs.records.records.Statement.{statement}
 use Rattle.placing.proofs.records.records.Tie as tie
 

@@ -16,7 +16,9 @@ use Rattle.rules.specs.declared.nodes.Offset.{Offset}
 use Rattle.rules.specs.declared.nodes.NodeRecord.{NodeRecord}
 use Rattle.placing.specs.Moves.{at, meetingAt}
 use Rattle.placing.specs.Writing.{shiftRow}
-use Rattle.placing.specs.Records.{nodeIn, offsetIn, leftIn, movedRows, Ready}
+use Rattle.graph.specs.Links.{leftIn}
+use Rattle.offsets.specs.Judging.{offsetIn}
+use Rattle.placing.specs.Records.{nodeIn, movedRows, Ready}
 use Rattle.placing.proofs.RowLaws.{wrote-on, ready-lower, load-rows, load-length, splat-rows, input-below, op-rows, op-length, never-shift}
 use Rattle.placing.proofs.rows.write.Reads as write
 use Rattle.placing.proofs.rows.write.Kinds as write-kinds
