@@ -24,7 +24,11 @@ fn beside(by: ShiftBy, blocks: VectorNumber) -> VectorNumber
     let to = by.to.0;
     let next = blocks.0 + 1;
     let previous = blocks.0 - 1;
-    if to < from { VectorNumber(next) } else { VectorNumber(previous) }
+    if to < from {
+        VectorNumber(next)
+    } else {
+        VectorNumber(previous)
+    }
 }
 
 // The code of node k from a row on, with so many vectors added to its addresses; the row after it. An op's left input is
@@ -50,9 +54,9 @@ pub(crate) fn gen_expr(
             let right_input = k - 1;
             let middle = gen_expr(nodes, left, left_input, blocks, row, section);
             let end = gen_expr(nodes, left, right_input, blocks, middle, section);
-            let one = middle - 1;
-            let other = end - 1;
-            put_op(section, end, operation, one, other)
+            let left_register = middle - 1;
+            let right_register = end - 1;
+            put_op(section, end, operation, left_register, right_register)
         }
         Node::Shift(by) => gen_shift(nodes, left, k, by, blocks, row, section),
     }

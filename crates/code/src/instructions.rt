@@ -155,9 +155,9 @@ pub(crate) fn put_pair(
     ensures { λ r. ⌜ Written (now (section .entry)) (now (section .exit)) row r (pairUp vectorBytes (by .«from» .0) (by .to .0) row this other ∷ []) ⌝ }
 {
     let destination = row as u32;
-    let one = this as u32;
-    let second = other as u32;
-    let i = pair_up(by, destination, one, second);
+    let this_register = this as u32;
+    let other_register = other as u32;
+    let i = pair_up(by, destination, this_register, other_register);
     put(section, row, i)
 }
 

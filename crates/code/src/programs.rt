@@ -47,15 +47,11 @@ pub(crate) fn emit(
         return program;
     }
     if full.0 == 0 {
-        let rows = put_only(nodes, left, root, store, width, elements, prologue);
-        program.prologue = rows as u64;
+        program.prologue = put_only(nodes, left, root, store, width, elements, prologue) as u64;
         return program;
     }
-    let first = put_prologue(nodes, left, root, store, prologue);
-    let middle = put_body(nodes, left, root, store, full, body);
-    let last = put_epilogue(nodes, left, root, store, width, rest, epilogue);
-    program.prologue = first as u64;
-    program.body = middle as u64;
-    program.epilogue = last as u64;
+    program.prologue = put_prologue(nodes, left, root, store, prologue) as u64;
+    program.body = put_body(nodes, left, root, store, full, body) as u64;
+    program.epilogue = put_epilogue(nodes, left, root, store, width, rest, epilogue) as u64;
     program
 }

@@ -24,7 +24,9 @@ returns c =
     let j = c .before .before in
     let s = j .before .before .before .before .before .before .before .before .before in
     let a = s .args in
-    room-leaves (a .head .now) (a .nodes .now) (a .work-len) (a .table-len) (a .prologue .now) (a .body .now) (a .epilogue .now) (rw (c .enum-told .given .1) at (j .judge .ensures))
+    room-leaves
+    (a .head .now) (a .nodes .now) (a .work-len) (a .table-len) (a .prologue .now) (a .body .now) (a .epilogue .now)
+    (rw (c .enum-told .given .1) at (j .judge .ensures))
 
 clear-requires : tie.Need-clear-requires
 clear-requires c κs = search needs
@@ -57,7 +59,9 @@ returns-2 c =
     let s = j .before .before .before .before .before .before .before .before .before in
     let a = s .args in
     rw (x .clear .ensures, y .clear2 .ensures, z .clear3 .ensures)
-    (refusal-leaves (a .head .now) (a .nodes .now) (a .work-len) (a .table-len) (a .prologue .now) (a .body .now) (a .epilogue .now) (j .judge .result) (j .judge .ensures) (c .match2 .keys2) (m .match .keys2))
+    (refusal-leaves
+    (a .head .now) (a .nodes .now) (a .work-len) (a .table-len) (a .prologue .now) (a .body .now) (a .epilogue .now)
+    (j .judge .result) (j .judge .ensures) (c .match2 .keys2) (m .match .keys2))
 
 header-of-requires : tie.Need-header-of-requires
 header-of-requires c κs = search needs
@@ -77,8 +81,14 @@ emit-requires c κs =
     let s = j .before .before .before .before .before .before .before .before .before in
     let a = s .args in
     let e = rw (t .enum-told2 .given .1) at (j .judge .ensures) in
-    rw (l .left-inputs .ensures, h .header-of .ensures, x .clear .ensures, y .clear2 .ensures, z .clear3 .ensures)
-    (program-ready (a .head .now) (a .nodes .now) (a .work-len) (a .table-len) (a .prologue .now) (a .body .now) (a .epilogue .now) e, cleared-roomy (a .head .now) (a .nodes .now) (a .work-len) (a .table-len) (a .prologue .now) (a .body .now) (a .epilogue .now) e)
+    rw (l .left-inputs .ensures, h .header-of .ensures, x .clear .ensures, y .clear2 .ensures, z .clear3 .ensures) (
+      program-ready
+          (a .head .now) (a .nodes .now) (a .work-len) (a .table-len) (a .prologue .now) (a .body .now) (a .epilogue .now)
+          e,
+      cleared-roomy
+          (a .head .now) (a .nodes .now) (a .work-len) (a .table-len) (a .prologue .now) (a .body .now) (a .epilogue .now)
+          e,
+    )
 
 same-length-7 : tie.Need-same-length-7
 same-length-7 c = search needs
@@ -102,7 +112,9 @@ returns-3 c =
     let s = j .before .before .before .before .before .before .before .before .before in
     let a = s .args in
     let e = rw (t .enum-told2 .given .1) at (j .judge .ensures) in
-    program-leaves (a .head .now) (a .nodes .now) (a .work-len) (a .table-len) (a .prologue .now) (a .body .now) (a .epilogue .now) e
+    program-leaves
+    (a .head .now) (a .nodes .now) (a .work-len) (a .table-len) (a .prologue .now) (a .body .now) (a .epilogue .now)
+    e
     (rw (h .header-of .ensures, x .clear .ensures, y .clear2 .ensures, z .clear3 .ensures) at (w .emit .ensures))
 
 pub translate-spec : {M : Type 1} → statement M

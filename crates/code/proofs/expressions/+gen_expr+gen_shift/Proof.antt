@@ -128,8 +128,8 @@ gen-expr-gen-expr-requires-2 t c κs =
     let r = n .before .before .before .before .before .pre .1 in
     (omega (arith, op-falls r _ (is-op t n)), right-ready r _ (is-op t n) (f .gen-expr .ensures))
 
-gen-expr-sub-one : (t : ℕ) → gen-expr-lts.Need-sub-one (gen-expr-calls t) (gen-expr-at t) gen-expr.Post
-gen-expr-sub-one t c =
+gen-expr-sub-left-register : (t : ℕ) → gen-expr-lts.Need-sub-left-register (gen-expr-calls t) (gen-expr-at t) gen-expr.Post
+gen-expr-sub-left-register t c =
     let g = c .before .before in
     let f = g .before .before .before .before in
     let n = f .before .before .before .before in
@@ -137,8 +137,8 @@ gen-expr-sub-one t c =
     let q = op-room r _ (is-op t n) (f .gen-expr .ensures) (g .gen-expr2 .ensures) in
     omega (arith, q .1)
 
-gen-expr-sub-other : (t : ℕ) → gen-expr-lts.Need-sub-other (gen-expr-calls t) (gen-expr-at t) gen-expr.Post
-gen-expr-sub-other t c =
+gen-expr-sub-right-register : (t : ℕ) → gen-expr-lts.Need-sub-right-register (gen-expr-calls t) (gen-expr-at t) gen-expr.Post
+gen-expr-sub-right-register t c =
     let g = c .before .before in
     let f = g .before .before .before .before in
     let n = f .before .before .before .before in
@@ -292,8 +292,8 @@ pub +gen-expr+gen-shift-spec : {M : Type 1} → statement M
     (gen-expr-sub-right-input t)
     (gen-expr-gen-expr-requires t)
     (gen-expr-gen-expr-requires-2 t)
-    (gen-expr-sub-one t)
-    (gen-expr-sub-other t)
+    (gen-expr-sub-left-register t)
+    (gen-expr-sub-right-register t)
     (gen-expr-put-op-requires t)
     (gen-expr-enum-known-node-4 t)
     (gen-expr-gen-shift-requires t)

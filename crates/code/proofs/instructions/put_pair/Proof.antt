@@ -6,11 +6,11 @@ use Rattle.code.proofs.instructions.put_pair.Tie as tie
 cast-destination : tie.Need-cast-destination
 cast-destination c = search needs
 
-cast-one : tie.Need-cast-one
-cast-one c = search needs
+cast-this-register : tie.Need-cast-this-register
+cast-this-register c = search needs
 
-cast-second : tie.Need-cast-second
-cast-second c = search needs
+cast-other-register : tie.Need-cast-other-register
+cast-other-register c = search needs
 
 pair-up-requires : tie.Need-pair-up-requires
 pair-up-requires c κs = search needs
@@ -29,8 +29,8 @@ put-pair-spec =
     tie.close
     (tie.spec
     cast-destination
-    cast-one
-    cast-second
+    cast-this-register
+    cast-other-register
     pair-up-requires
     put-requires
     same-length

@@ -12,7 +12,9 @@ returns c =
     let b = c .before in
     let s = b .before .before .before .before .before .before in
     let a = s .args in
-    room-found (a .head .now) (a .nodes .now) (a .work-len) (a .table-len) (a .prologue .now) (a .body .now) (a .epilogue .now) (rw (c .if1 .taken) at (b .sections-short .ensures))
+    room-found
+    (a .head .now) (a .nodes .now) (a .work-len) (a .table-len) (a .prologue .now) (a .body .now) (a .epilogue .now)
+    (rw (c .if1 .taken) at (b .sections-short .ensures))
 
 judge-form-requires : tie.Need-judge-form-requires
 judge-form-requires c κs = search needs
@@ -28,7 +30,9 @@ returns-2 c =
     let s = b .before .before .before .before .before .before in
     let a = s .args in
     let h = rw (i .if1 .left) at (b .sections-short .ensures) in
-    form-refused (a .head .now) (a .nodes .now) (a .work-len) (a .table-len) (a .prologue .now) (a .body .now) (a .epilogue .now) h (f .judge-form .result) (c .match .keys2) (f .judge-form .ensures)
+    form-refused
+    (a .head .now) (a .nodes .now) (a .work-len) (a .table-len) (a .prologue .now) (a .body .now) (a .epilogue .now)
+    h (f .judge-form .result) (c .match .keys2) (f .judge-form .ensures)
 
 header-of-requires : tie.Need-header-of-requires
 header-of-requires c κs = search needs
@@ -51,7 +55,9 @@ returns-3 c =
     let a = s .args in
     let h = rw (i .if1 .left) at (b .sections-short .ensures) in
     let p = rw (t .enum-told .given .1) at (f .judge-form .ensures) in
-    addresses-refused (a .head .now) (a .nodes .now) (a .work-len) (a .table-len) (a .prologue .now) (a .body .now) (a .epilogue .now) h p (d .judge-addresses .result) (c .match2 .keys2)
+    addresses-refused
+    (a .head .now) (a .nodes .now) (a .work-len) (a .table-len) (a .prologue .now) (a .body .now) (a .epilogue .now)
+    h p (d .judge-addresses .result) (c .match2 .keys2)
     (rw (e .header-of .ensures) at (d .judge-addresses .ensures))
 
 judge-offsets-requires : tie.Need-judge-offsets-requires
@@ -75,7 +81,9 @@ returns-4 c =
     let h = rw (i .if1 .left) at (b .sections-short .ensures) in
     let p = rw (t .enum-told .given .1) at (f .judge-form .ensures) in
     let q = rw (u .enum-told2 .given .1, e .header-of .ensures) at (d .judge-addresses .ensures) in
-    offsets-refused (a .head .now) (a .nodes .now) (a .work-len) (a .table-len) (a .prologue .now) (a .body .now) (a .epilogue .now) h p q (o .judge-offsets .result) (c .match3 .keys2) (o .judge-offsets .ensures)
+    offsets-refused
+    (a .head .now) (a .nodes .now) (a .work-len) (a .table-len) (a .prologue .now) (a .body .now) (a .epilogue .now)
+    h p q (o .judge-offsets .result) (c .match3 .keys2) (o .judge-offsets .ensures)
 
 judge-size-requires : tie.Need-judge-size-requires
 judge-size-requires c κs =
@@ -88,7 +96,14 @@ judge-size-requires c κs =
     let a = s .args in
     let h = rw (i .if1 .left) at (b .sections-short .ensures) in
     let p = rw (t .enum-told .given .1) at (f .judge-form .ensures) in
-    rw (e .header-of .ensures, same-graph (a .head .now) (a .nodes .now) (a .work-len) (a .table-len) (a .prologue .now) (a .body .now) (a .epilogue .now) h p) (formed (a .head .now) (a .nodes .now) (a .work-len) (a .table-len) (a .prologue .now) (a .body .now) (a .epilogue .now) h p)
+    rw (
+      e .header-of .ensures,
+      same-graph
+          (a .head .now) (a .nodes .now) (a .work-len) (a .table-len) (a .prologue .now) (a .body .now) (a .epilogue .now)
+          h p,
+    ) (formed
+    (a .head .now) (a .nodes .now) (a .work-len) (a .table-len) (a .prologue .now) (a .body .now) (a .epilogue .now)
+    h p)
 
 returns-5 : tie.Need-returns-5
 returns-5 c =
@@ -107,7 +122,9 @@ returns-5 c =
     let h = rw (i .if1 .left) at (b .sections-short .ensures) in
     let p = rw (t .enum-told .given .1) at (f .judge-form .ensures) in
     let q = rw (u .enum-told2 .given .1, e .header-of .ensures) at (d .judge-addresses .ensures) in
-    size-decides (a .head .now) (a .nodes .now) (a .work-len) (a .table-len) (a .prologue .now) (a .body .now) (a .epilogue .now) h p q (rw (v .enum-told3 .given .1) at (o .judge-offsets .ensures)) (z .judge-size .result)
+    size-decides
+    (a .head .now) (a .nodes .now) (a .work-len) (a .table-len) (a .prologue .now) (a .body .now) (a .epilogue .now)
+    h p q (rw (v .enum-told3 .given .1) at (o .judge-offsets .ensures)) (z .judge-size .result)
     (rw (e .header-of .ensures) at (z .judge-size .ensures))
 
 pub judge-spec : {M : Type 1} → statement M

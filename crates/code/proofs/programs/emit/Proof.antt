@@ -59,7 +59,8 @@ put-epilogue-requires : tie.Need-put-epilogue-requires
 put-epilogue-requires c κs =
     let v = c .before .before .before .before .before .before .before .before .before .before .before .before .before .before .before .before in
     let s = v .before .before .before .before .before .before .before in
-    (s .pre .0 .2, search needs, rw (v .split-stream .ensures .1) (rest-most (s .args .header .width) (s .args .header .elements) (s .args .header .store .0)))
+    let h = s .args .header in
+    (s .pre .0 .2, search needs, rw (v .split-stream .ensures .1) (rest-most (h .width) (h .elements) (h .store .0)))
 
 same-length-2 : tie.Need-same-length-2
 same-length-2 c = search needs
