@@ -36,6 +36,7 @@ fn width_bytes(width: Width) -> u64
     }
 }
 
+// The one place where an element's number becomes a number of bytes.
 fn byte_of_element(width: Width, i: ElementNumber) -> ByteOffset
     requires { ⌜ i .0 ≤ elementsMost ⌝ }
     ensures { λ r. ⌜ r ≡ byteOfElement (widthBytes width) i ⌝ }
@@ -98,6 +99,7 @@ fn eight_at(window: &[u8], at: usize) -> u64
     low + high * FOUR_BYTES
 }
 
+// Goes by the width once, so that no loop over bytes of a number known only at run time is left.
 pub(crate) fn element_at(window: &[u8], start: ByteOffset, width: Width) -> u64
     requires { ⌜ start .0 + widthBytes width ≤ length (now window) ⌝ }
     ensures { λ r. ⌜ ElementAt (widthBytes width) (now (window .entry)) (start .0) r ⌝ }
