@@ -32,7 +32,7 @@ const NO_PROGRAM: ProgramHead = ProgramHead {
     epilogue: 0,
 };
 
-fn clear(section: &mut [u32])
+pub fn clear(section: &mut [u32])
     ensures { λ _. ⌜ now (section .exit) ≡ padded (length (now (section .entry))) [] ⌝ }
 {
     let mut i = 0;

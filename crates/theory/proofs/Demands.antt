@@ -214,7 +214,7 @@ looping-done : (W : ℕ) (head nodes work table : List ℕ) → (headShort head 
 unfolding looping checking first
 looping-done W head nodes work table room form windows aligned bounded = rw (room, form, windows, aligned, bounded)
 
-tables-roomy : (rest a b c : Bool) → (rest || a || b || c) ≡ false → rest ≡ false
+pub tables-roomy : (rest a b c : Bool) → (rest || a || b || c) ≡ false → rest ≡ false
 tables-roomy rest a b c e = neither rest a (neither (rest || a) b (neither (rest || a || b) c e .0) .0) .0
 
 module _ (W : ℕ) (v : VectorWidth W) (head nodes work table prologue body epilogue : List ℕ) (byte : HoldBytes work table) where
