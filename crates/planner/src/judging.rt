@@ -21,7 +21,13 @@ const SECTION_ENTRIES: usize = 6144;
 
 const RULES_MOST: u64 = 3;
 
-fn tables_short(head: &[u64], nodes: &[u64], prologue: &[u32], body: &[u32], epilogue: &[u32]) -> bool
+fn tables_short(
+    head: &[u64],
+    nodes: &[u64],
+    prologue: &[u32],
+    body: &[u32],
+    epilogue: &[u32],
+) -> bool
     ensures { λ r. ⌜ r ≡ tablesShort (now (head .entry)) (now (nodes .entry)) (now (prologue .entry)) (now (body .entry)) (now (epilogue .entry)) ⌝ }
 {
     if head.len() < HEAD_ENTRIES {

@@ -41,7 +41,16 @@ pub fn plan(
 ) -> Planned
     ensures { λ r. ⌜ planGiven r (now (prologue .exit)) (now (body .exit)) (now (epilogue .exit)) ≡ planning vectorBytes rule (now (head .entry)) (now (nodes .entry)) «work_len» «table_len» (now (prologue .entry)) (now (body .entry)) (now (epilogue .entry)) ⌝ }
 {
-    let answer = judging::judge(rule, head, nodes, work_len, table_len, prologue, body, epilogue);
+    let answer = judging::judge(
+        rule,
+        head,
+        nodes,
+        work_len,
+        table_len,
+        prologue,
+        body,
+        epilogue,
+    );
     if let PlanAnswer::Room = answer {
         return Planned {
             answer: PlanAnswer::Room,
@@ -69,8 +78,9 @@ pub fn plan(
         body,
         epilogue,
     );
+    let made = program.head;
     Planned {
         answer: PlanAnswer::Done,
-        head: program.head,
+        head: made,
     }
 }
