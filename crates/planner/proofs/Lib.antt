@@ -1,2 +1,3 @@
 pub mod PlanLaws
 pub mod JudgeLaws
+pub mod Outcomes
