@@ -1,9 +1,9 @@
--- What a caller in C is given: an answer in one number, its number in the lowest byte, its place in the next, its steps above.
+-- What a caller in C is given: an answer in one number, its number in the lowest byte, its place in the next, its steps above; with
+-- what a call leaves.
 use Prim.Native.Nat.{ℕ, _+_, _*_, _%_}
 use mathlib.Core.List.{List}
 use Rattle.rules.specs.Answers.{Answer}
-use Rattle.rules.specs.Calls.{WithWork}
-use Rattle.rules.specs.declared.program.ProgramHead.{ProgramHead}
+use Rattle.rules.specs.Calls.{WithSheet, WithWork}
 
 abbrev pub placeUnit : ℕ
 placeUnit = 256
@@ -21,16 +21,25 @@ pack number place steps = number % placeUnit + placeUnit * (place % placeUnit) +
 abbrev pub packed : Answer → ℕ
 packed a = pack (a .number) (a .place) (a .steps)
 
--- the packed answer and work, as a run leaves them
-pub record Packed : Type 0 where
+-- a packed answer with the two lent tables of a sheet
+pub record PackedSheet : Type 0 where
+  pub answer : ℕ
+  pub head : List ℕ
+  pub nodes : List ℕ
+
+abbrev pub packedSheet : ℕ → (head nodes : List ℕ) → PackedSheet
+packedSheet answer head nodes = record { answer = answer; head = head; nodes = nodes }
+
+abbrev pub ofWithSheet : WithSheet → PackedSheet
+ofWithSheet r = packedSheet (packed (r .answer)) (r .head) (r .nodes)
+
+-- a packed answer with the work window
+pub record PackedWork : Type 0 where
   pub answer : ℕ
   pub work : List ℕ
 
-abbrev pub packedRun : ℕ → List ℕ → Packed
-packedRun answer work = record { answer = answer; work = work }
+abbrev pub packedWork : ℕ → List ℕ → PackedWork
+packedWork answer work = record { answer = answer; work = work }
 
-abbrev pub ofWithWork : WithWork → Packed
-ofWithWork r = packedRun (packed (r .answer)) (r .work)
-
-abbrev pub headOf : (d f prologue body epilogue : ℕ) → ProgramHead
-headOf d f prologue body epilogue = record { d = d; f = f; prologue = prologue; body = body; epilogue = epilogue }
+abbrev pub ofWithWork : WithWork → PackedWork
+ofWithWork r = packedWork (packed (r .answer)) (r .work)

@@ -1,48 +1,100 @@
 // The library for callers in C and Rust: each public call under one name, with numbers and lent tables only. A lent table is a
 // pointer and then its length. docs/CALLERS.md has every call and every answer.
-use rules::answers::RunAnswer;
+mod packing;
+mod programs;
+
+use crate::packing::ROOM;
+use crate::packing::joined;
+use crate::packing::packed_check;
+use crate::packing::packed_offset;
+use crate::packing::packed_place;
+use crate::packing::packed_plain;
+use crate::packing::packed_read;
+use crate::packing::packed_run;
+use crate::packing::packed_translate;
+use crate::programs::PROGRAM_ENTRIES;
+use crate::programs::leave_program;
 use rules::program::ProgramHead;
 ghost use mathlib.Core.Path.{_≡_};
 ghost use Rattle.rules.specs.Limits.{vectorBytes};
-ghost use Rattle.rules.specs.Answers.{ofRun};
-ghost use Rattle.rules.specs.Calls.{running};
-ghost use Rattle.board.specs.Packed.{pack, packed, headOf, packedRun, ofWithWork};
+ghost use Rattle.rules.specs.Calls.{reading, checking, offsetChecking, looping, placing, translating, running};
+ghost use Rattle.board.specs.Packed.{packed, packedSheet, ofWithSheet, packedWork, ofWithWork};
+ghost use Rattle.board.specs.Programs.{headOf, packedProgram, handed};
 
-// The answers' numbers.
-const DONE: u64 = 0;
-
-const ROOM: u64 = 1;
-
-const WINDOW: u64 = 6;
-
-const OUT: u64 = 12;
-
-const FAULT: u64 = 13;
-
-// Where the parts of a packed answer begin, and how many steps it has room for.
-const PLACE_UNIT: u64 = 256;
-
-const STEPS_UNIT: u64 = 65536;
-
-const STEPS_ROOM: u64 = 281474976710656;
-
-// A number of one byte, a place and the steps, in one number.
-fn joined(number: u64, place: u64, steps: u64) -> u64
-    ensures { λ r. ⌜ r ≡ pack number place steps ⌝ }
+// Reads a loop sheet into two tables.
+#[no_mangle]
+pub extern "C" fn sinkerjaw_read(text: &[u8], head: &mut [u64], nodes: &mut [u64]) -> u64
+    ensures { λ r. ⌜ packedSheet r (now (head .exit)) (now (nodes .exit)) ≡ ofWithSheet (reading (now (text .entry)) (now (head .entry)) (now (nodes .entry))) ⌝ }
 {
-    number % PLACE_UNIT + PLACE_UNIT * (place % PLACE_UNIT) + STEPS_UNIT * (steps % STEPS_ROOM)
+    let answer = sheet::read(text, head, nodes);
+    packed_read(answer)
 }
 
-fn packed_run(answer: RunAnswer) -> u64
-    ensures { λ r. ⌜ r ≡ packed (ofRun answer) ⌝ }
+// Checks a sheet or graph as if it were read.
+#[no_mangle]
+pub extern "C" fn sinkerjaw_check(head: &[u64], nodes: &[u64]) -> u64
+    ensures { λ r. ⌜ r ≡ packed (checking vectorBytes (now (head .entry)) (now (nodes .entry))) ⌝ }
 {
-    match answer {
-        RunAnswer::Done(steps) => joined(DONE, 0, steps),
-        RunAnswer::Room => joined(ROOM, 0, 0),
-        RunAnswer::Window(place) => joined(WINDOW, place, 0),
-        RunAnswer::Out(steps) => joined(OUT, 0, steps),
-        RunAnswer::Fault(steps) => joined(FAULT, 0, steps),
+    let answer = graph::check(head, nodes);
+    packed_check(answer)
+}
+
+// Checks a graph as if it were read, and its offsets.
+#[no_mangle]
+pub extern "C" fn sinkerjaw_offset_check(head: &[u64], nodes: &[u64]) -> u64
+    ensures { λ r. ⌜ r ≡ packed (offsetChecking vectorBytes (now (head .entry)) (now (nodes .entry))) ⌝ }
+{
+    let answer = offsets::offset_check(head, nodes);
+    packed_offset(answer)
+}
+
+// Does a loop element by element.
+#[no_mangle]
+pub extern "C" fn sinkerjaw_plain(head: &[u64], nodes: &[u64], work: &mut [u8], table: &[u8]) -> u64
+    ensures { λ r. ⌜ packedWork r (now (work .exit)) ≡ ofWithWork (looping vectorBytes (now (head .entry)) (now (nodes .entry)) (now (work .entry)) (now (table .entry))) ⌝ }
+{
+    let answer = plain::run_loop(head, nodes, work, table);
+    packed_plain(answer)
+}
+
+// Puts shifts into a bare sheet by one of four rules.
+#[no_mangle]
+pub extern "C" fn sinkerjaw_place(
+    rule: u64,
+    head: &[u64],
+    nodes: &[u64],
+    placed_head: &mut [u64],
+    placed_nodes: &mut [u64],
+) -> u64
+    ensures { λ r. ⌜ packedSheet r (now («placed_head» .exit)) (now («placed_nodes» .exit)) ≡ ofWithSheet (placing vectorBytes rule (now (head .entry)) (now (nodes .entry)) (now («placed_head» .entry)) (now («placed_nodes» .entry))) ⌝ }
+{
+    let answer = placing::place(rule, head, nodes, placed_head, placed_nodes);
+    packed_place(answer)
+}
+
+// Translates a graph into a program for windows of so many bytes: its head in the program table, its sections in three more.
+#[no_mangle]
+pub extern "C" fn sinkerjaw_translate(
+    head: &[u64],
+    nodes: &[u64],
+    work_len: u64,
+    table_len: u64,
+    program: &mut [u64],
+    prologue: &mut [u32],
+    body: &mut [u32],
+    epilogue: &mut [u32],
+) -> u64
+    ensures { λ r. ⌜ packedProgram r (now (program .exit)) (now (prologue .exit)) (now (body .exit)) (now (epilogue .exit)) ≡ handed (now (program .entry)) (now (prologue .entry)) (now (body .entry)) (now (epilogue .entry)) (translating vectorBytes (now (head .entry)) (now (nodes .entry)) «work_len» «table_len» (now (prologue .entry)) (now (body .entry)) (now (epilogue .entry))) ⌝ }
+{
+    if program.len() < PROGRAM_ENTRIES {
+        return joined(ROOM, 0, 0);
     }
+    let made = code::translate(head, nodes, work_len, table_len, prologue, body, epilogue);
+    let told = made.answer;
+    let made_head = made.head;
+    let answer = packed_translate(told);
+    leave_program(answer, made_head, program);
+    answer
 }
 
 // Runs a program: D, F, the three sections with their rows, the windows and the budget.
@@ -60,7 +112,7 @@ pub extern "C" fn sinkerjaw_run(
     table: &[u8],
     budget: u64,
 ) -> u64
-    ensures { λ r. ⌜ packedRun r (now (work .exit)) ≡ ofWithWork (running vectorBytes (headOf d f «prologue_rows» «body_rows» «epilogue_rows») (now (prologue .entry)) (now (body .entry)) (now (epilogue .entry)) budget (now (work .entry)) (now (table .entry))) ⌝ }
+    ensures { λ r. ⌜ packedWork r (now (work .exit)) ≡ ofWithWork (running vectorBytes (headOf d f «prologue_rows» «body_rows» «epilogue_rows») (now (prologue .entry)) (now (body .entry)) (now (epilogue .entry)) budget (now (work .entry)) (now (table .entry))) ⌝ }
 {
     let head = ProgramHead {
         d: d,

@@ -2,7 +2,8 @@
 -- function (`Allowed` of its crate's Outcomes) and that windows hold bytes; nothing is assumed of the functions' code. What the
 -- words mean is in crates/rules/specs; why it holds is in crates/theory, which says the same of the definitions.
 use Prim.Native.Nat.{ℕ, _≤_, _<_}
-use mathlib.Core.Path.{_≡_, _≢_, refl, sym, ap, _∙_}
+use mathlib.Core.Path.{_≡_, refl, sym, ap, _∙_}
+use mathlib.Core.Logic.{_≢_}
 use mathlib.Core.List.{List}
 use native.Mathlib.Omega.{arith}
 use lib.ListN.{length, take}

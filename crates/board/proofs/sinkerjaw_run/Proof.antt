@@ -1,3 +1,4 @@
+-- The call meets the definition, its answer is packed, and what it leaves is left.
 use mathlib.Core.Path.{ap}
 use Rattle.board.specs.Packed.{ofWithWork}
 use borrow.Author.Needs.{needs}

@@ -1,6 +1,7 @@
+-- In each case the answer is known, and its number, place and steps are joined.
 use borrow.Author.Needs.{needs}
-use Rattle.board.proofs.packed_run.Statement.{statement}
-use Rattle.board.proofs.packed_run.Tie as tie
+use Rattle.board.proofs.packing.packed_run.Statement.{statement}
+use Rattle.board.proofs.packing.packed_run.Tie as tie
 
 enum-known-answer : tie.Need-enum-known-answer
 enum-known-answer c = search needs
