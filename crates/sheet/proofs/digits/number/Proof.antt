@@ -59,7 +59,8 @@ add-value : tie.Need-add-value Inv-loop μ-loop
 add-value c =
     let l = c .before .before .before .before .before in
     let a = l .before .before .before .args in
-    let s = spelt (a .text .now) (a .at + 2 * l .loop .i) 2 _ (sym (c .before .byte .given .1) ∙ c .before .before .before .two-digits2 .ensures) in
+    let e = sym (c .before .byte .given .1) ∙ c .before .before .before .two-digits2 .ensures in
+    let s = spelt (a .text .now) (a .at + 2 * l .loop .i) 2 _ e in
     omega
     (arith, s .1, spelled-small (a .text .now) (a .at) (l .loop .i) (omega arith), spelled-most (a .text .now) (a .at + 2 * l .loop .i) 2)
 
