@@ -108,7 +108,8 @@ module _ (text : List ℕ) where
   second-broken at d e = rw (d, e)
 
   -- a byte more, and one that is broken
-  pub short-more : (at i : ℕ) → short text at (2 * i) ≡ false → short text (at + 2 * i) 2 ≡ false → short text at (2 * (i + 1)) ≡ false
+  pub short-more : (at i : ℕ) → short text at (2 * i) ≡ false → short text (at + 2 * i) 2 ≡ false
+      → short text at (2 * (i + 1)) ≡ false
   short-more at i h e =
       let s : 2 * (i + 1) ≡ 2 * i + 2 = omega arith in
       rw (s, short-split at (2 * i) 2, h, e)

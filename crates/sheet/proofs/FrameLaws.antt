@@ -1,20 +1,25 @@
 -- A frame by its parts: it is whole where the kind's digits, each field's digits and the line feed are, and where it would reach
 -- past the end of the text there is none.
 use Prim.Native.Nat.{ℕ, zero, suc, _+_, _≤_, _<_}
-use mathlib.Core.Path.{_≡_, refl}
+use mathlib.Core.Path.{_≡_, refl, sym, ap}
 use mathlib.Core.Bool.{Bool, true, false, cond, _||_, or-true}
 use mathlib.Core.List.{List}
 use native.Mathlib.Omega.{arith}
 use lib.ListN.{length, getD, List·getD-eq-default}
-use lib.Dec.{ltb}
-use borrow.Author.Tests.{le-ltb, lt-ltb, ne-eqb}
+use lib.Dec.{ltb, eqb}
+use borrow.Author.Tests.{le-ltb, lt-ltb, ne-eqb, eqb-true}
 use Rattle.rules.specs.Digits.{spelled}
-use Rattle.rules.specs.Frames.{digits, fieldDigits, frameDigits, frameOf, frameAt, endKind}
+use Rattle.rules.specs.Frames.{digits, fieldDigits, frameDigits, fieldsOf, frameOf, frameAt, endKind}
 use Rattle.theory.proofs.RowLaws.{no-node-kind}
 use Rattle.rules.specs.declared.sheet.FieldDigits.{FieldDigits}
+use Rattle.rules.specs.Reading.{refused, headerLine, sheetBy}
+use Rattle.rules.specs.declared.answers.ReadAnswer.the-variants.{Line}
+use Rattle.rules.specs.declared.sheet.Fields.{Fields}
 use Rattle.rules.specs.declared.sheet.Frame.{Frame}
 use Rattle.rules.specs.declared.sheet.Frame.the-variants.{Bad, Is}
 use Rattle.sheet.specs.Numbers.{short, numberAt, Bytes}
+use Rattle.sheet.specs.Headers.{headerOf}
+use Rattle.sheet.specs.declared.digits.Spelling.{Spelling}
 use Rattle.sheet.specs.declared.digits.Spelling.the-variants.{Number, Broken}
 use Rattle.sheet.proofs.DigitLaws.{short-split, spelt, broken}
 
@@ -34,7 +39,8 @@ module _ (text : List ℕ) (at kind : ℕ) (w : FieldDigits) where
       frame-unfed (λ e. absurd (omega arith))
 
   parts : short text at (frameDigits w)
-      ≡ (short text at 2 || short text (at + 2) (w .x) || short text (at + 2 + w .x) (w .y) || short text (at + 2 + w .x + w .y) (w .z))
+      ≡ (short text at 2 || short text (at + 2) (w .x) || short text (at + 2 + w .x) (w .y)
+      || short text (at + 2 + w .x + w .y) (w .z))
   parts =
       let y : at + (2 + w .x) ≡ at + 2 + w .x = omega arith in
       let z : at + (2 + w .x + w .y) ≡ at + 2 + w .x + w .y = omega arith in
@@ -113,3 +119,66 @@ whole-bytes (suc (suc zero)) = record { most = omega arith; x = refl; y = refl; 
 whole-bytes (suc (suc (suc zero))) = record { most = omega arith; x = refl; y = refl; z = refl }
 whole-bytes (suc (suc (suc (suc zero)))) = record { most = omega arith; x = refl; y = refl; z = refl }
 whole-bytes (suc (suc (suc (suc (suc k))))) = record { most = omega arith; x = refl; y = refl; z = refl }
+
+-- ---- line 1
+
+module _ (text : List ℕ) where
+  abbrev header : Frame
+  header = headerOf (frameAt text 0)
+
+  -- a kind byte that is broken, or another kind's
+  pub header-broken : Broken ≡ numberAt text 0 2 → Bad ≡ header
+  unfolding frameAt
+  header-broken e = rw (broken text 0 2 e)
+
+  other-frame : (kind : ℕ) (w : FieldDigits) → (kind ≡ 0 → ⊥) → Bad ≡ headerOf (frameOf text 0 kind w)
+  unfolding frameOf
+  other-frame kind w ne = go (short text 0 (frameDigits w)) (eqb (getD text (0 + frameDigits w) 0) 10)
+    where
+      go : (t u : Bool) → Bad ≡ headerOf (cond t Bad (cond u (Is (fieldsOf text 0 kind w)) Bad))
+      go true u = refl
+      go false true = rw (ne-eqb kind 0 ne)
+      go false false = refl
+
+  pub header-other : (kind : ℕ) → Number kind ≡ numberAt text 0 2 → (kind ≡ 0 → ⊥) → Bad ≡ header
+  unfolding frameAt
+  header-other kind e ne =
+      let s = spelt text 0 2 kind e in
+      rw (s .0, ← s .1) (go (ltb endKind kind))
+    where
+      go : (t : Bool) → Bad ≡ headerOf (cond t Bad (frameOf text 0 kind (fieldDigits kind)))
+      go true = refl
+      go false = other-frame kind (fieldDigits kind) ne
+
+  -- and the header's: what its frame is
+  pub header-frame : Number 0 ≡ numberAt text 0 2 → (frame : Frame) → frame ≡ frameOf text 0 0 (fieldDigits 0)
+      → headerOf frame ≡ header
+  header-frame e frame f = ap headerOf (kind-known text 0 0 e (omega arith) frame f)
+
+  pub header-unended : (Bad ≡ frameOf text 0 0 (fieldDigits 0)) → Bad ≡ header
+  header-unended f = go (numberAt text 0 2) refl
+    where
+      go : (n : Spelling) → numberAt text 0 2 ≡ n → Bad ≡ header
+      go Broken e = header-broken (sym e)
+      go (Number zero) e = header-frame (sym e) Bad f
+      go (Number (suc kind)) e = header-other (suc kind) (sym e) (λ z. absurd (omega arith))
+
+-- what is read on line 1 is a header, and makes the sheet
+pub header-is : (frame : Frame) (f : Fields) → headerOf frame ≡ Is f → (frame ≡ Is f) × (f .kind ≡ 0)
+header-is Bad f e = let z : _≡_ {A = ℕ} 0 1 = cc in absurd (omega arith)
+header-is (Is g) f e = go (eqb (g .kind) 0) refl e
+  where
+    go : (t : Bool) → eqb (g .kind) 0 ≡ t → cond t (Is g) Bad ≡ Is f → (Is g ≡ Is f) × (f .kind ≡ 0)
+    go true k e =
+        let s : g ≡ f = cc in
+        (e, rw s at (eqb-true (g .kind) 0 k))
+    go false k e = let z : _≡_ {A = ℕ} 0 1 = cc in absurd (omega arith)
+
+pub header-none : (text : List ℕ) (frame : Frame) → headerOf frame ≡ Bad → sheetBy text frame ≡ refused (Line 1)
+unfolding sheetBy
+header-none text Bad e = refl
+header-none text (Is g) e = go (eqb (g .kind) 0) e
+  where
+    go : (t : Bool) → cond t (Is g) Bad ≡ Bad → cond t (headerLine text g) (refused (Line 1)) ≡ refused (Line 1)
+    go true e = let z : _≡_ {A = ℕ} 0 1 = cc in absurd (omega arith)
+    go false e = refl

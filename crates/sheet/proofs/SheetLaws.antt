@@ -64,7 +64,8 @@ module _ (text : List ℕ) (f : Fields) where
 
   -- the width that the lines were read at is D
   pub lines-at-width : (width : Width) (r s : Ending) (len : ℕ) (table : List ℕ) → headOk (f .x) (f .y) (f .z) ≡ true
-      → width ≡ widthOf (f .x) → r ≡ s → LinesLeft text (widthBytes width) (fresh f) len r table → LinesLeft text (f .x) (fresh f) len s table
+      → width ≡ widthOf (f .x) → r ≡ s → LinesLeft text (widthBytes width) (fresh f) len r table
+      → LinesLeft text (f .x) (fresh f) len s table
   lines-at-width width r s len table o w e l = rw (w, width-back (f .x) (head-passes (f .x) (f .y) (f .z) o .width), e) at l
 
   pub lines-ended : (count headLen nodesLen : ℕ) (head nodes : List ℕ) → headOk (f .x) (f .y) (f .z) ≡ true
@@ -84,7 +85,8 @@ module _ (text : List ℕ) (f : Fields) where
 
 -- ---- the call
 
-pub no-room : (text head nodes : List ℕ) → (headShort head || nodesShort nodes) ≡ true → sheetLeft Room head nodes ≡ reading text head nodes
+pub no-room : (text head nodes : List ℕ) → (headShort head || nodesShort nodes) ≡ true
+    → sheetLeft Room head nodes ≡ reading text head nodes
 unfolding reading first
 no-room text head nodes s = rw s
 

@@ -1,3 +1,4 @@
 pub mod Numbers
+pub mod Headers
 pub mod Cursors
 pub mod Left

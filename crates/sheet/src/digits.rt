@@ -56,12 +56,15 @@ pub(crate) fn two_digits(text: &[u8], at: usize) -> Spelling
     Spelling::Number(value)
 }
 
-// The number that so many bytes of two digits each spell, most significant first.
+// The number that so many bytes of two digits each spell, most significant first. Most fields are of one byte, and need no loop.
 pub(crate) fn number(text: &[u8], at: usize, bytes: usize) -> Spelling
     requires { ⌜ at + 2 * bytes ≤ length (now text) ⌝ }
     requires { ⌜ bytes ≤ numberMost ⌝ }
     ensures { λ r. ⌜ r ≡ numberAt (now (text .entry)) at (2 * bytes) ⌝ }
 {
+    if bytes == 1 {
+        return two_digits(text, at);
+    }
     let mut value: u64 = 0;
     let mut i = 0;
     while i < bytes {

@@ -11,11 +11,27 @@ ghost use mathlib.Core.Bool.{false};
 ghost use Prim.Native.Nat.{_<_};
 ghost use Rattle.rules.specs.Frames.{fieldDigits, frameOf, frameAt};
 ghost use Rattle.sheet.specs.Numbers.{short, Bytes, textMost};
+ghost use Rattle.sheet.specs.Headers.{headerOf};
 
 // Digits of a byte, and so of the kind.
 const DIGITS: usize = 2;
 
+const HEADER_KIND: u64 = 0;
+
 const END_KIND: u64 = 5;
+
+// Where the header's fields stand, the bytes of n and of S, and where the line ends.
+const D_AT: usize = 2;
+
+const N_AT: usize = 4;
+
+const S_AT: usize = 8;
+
+const N_BYTES: usize = 2;
+
+const S_BYTES: usize = 2;
+
+const HEADER_DIGITS: usize = 12;
 
 const LINE_FEED: u8 = 10;
 
@@ -85,4 +101,39 @@ pub(crate) fn frame_at(text: &[u8], at: usize) -> Frame
     }
     let w = field_digits(kind);
     frame_of(text, at, kind, w)
+}
+
+// The header on line 1, and no other frame. It is read by itself: frame_at then has one caller, and is compiled into its loop.
+pub(crate) fn header_frame(text: &[u8]) -> Frame
+    ensures { λ r. ⌜ r ≡ headerOf (frameAt (now (text .entry)) 0) ⌝ }
+{
+    if text.len() <= HEADER_DIGITS {
+        return Frame::Bad;
+    }
+    if text[HEADER_DIGITS] != LINE_FEED {
+        return Frame::Bad;
+    }
+    let Spelling::Number(kind) = two_digits(text, 0) else {
+        return Frame::Bad;
+    };
+    if kind != HEADER_KIND {
+        return Frame::Bad;
+    }
+    let Spelling::Number(x) = two_digits(text, D_AT) else {
+        return Frame::Bad;
+    };
+    let Spelling::Number(y) = number(text, N_AT, N_BYTES) else {
+        return Frame::Bad;
+    };
+    let Spelling::Number(z) = number(text, S_AT, S_BYTES) else {
+        return Frame::Bad;
+    };
+    let next = HEADER_DIGITS as u64 + 1;
+    Frame::Is(Fields {
+        kind,
+        x,
+        y,
+        z,
+        next,
+    })
 }

@@ -1,5 +1,5 @@
 // The header, and with it a whole sheet into tables that are all zero.
-use crate::frames::frame_at;
+use crate::frames::header_frame;
 use crate::lines::Ending;
 use crate::lines::read_lines;
 use rules::answers::ReadAnswer;
@@ -14,6 +14,11 @@ ghost use lib.Seq.{sets};
 ghost use Rattle.rules.specs.Reading.{sheetOf, headerLine};
 ghost use Rattle.sheet.specs.Cursors.{lineBytes};
 ghost use Rattle.sheet.specs.Left.{sheetLeft, filled, Zeroed};
+
+// The lines' numbers: the header's, and that of the line after it.
+const HEADER_LINE: u64 = 1;
+
+const FIRST_LINE: u64 = 2;
 
 // Writes D, n, S and the number of nodes.
 fn put_head(head: &mut [u64], f: Fields, count: u64)
@@ -32,12 +37,12 @@ fn after_header(text: &[u8], f: Fields, head: &mut [u64], nodes: &mut [u64]) -> 
     ensures { λ r. ⌜ sheetLeft r (now (head .exit)) (now (nodes .exit)) ≡ filled (length (now (head .entry))) (length (now (nodes .entry))) (headerLine (now (text .entry)) f) ⌝ }
 {
     if !ranges::head_ok(f.x, f.y, f.z) {
-        return ReadAnswer::Range(1);
+        return ReadAnswer::Range(HEADER_LINE);
     }
     let width = ranges::width_of(f.x);
     let first = Cursor {
         at: f.next,
-        line: 2,
+        line: FIRST_LINE,
         count: 0,
         waiting: 0,
     };
@@ -55,15 +60,9 @@ pub(crate) fn sheet(text: &[u8], head: &mut [u64], nodes: &mut [u64]) -> ReadAns
     requires { ⌜ Zeroed (now head) (now nodes) ⌝ }
     ensures { λ r. ⌜ sheetLeft r (now (head .exit)) (now (nodes .exit)) ≡ filled (length (now (head .entry))) (length (now (nodes .entry))) (sheetOf (now (text .entry))) ⌝ }
 {
-    let frame = frame_at(text, 0);
+    let frame = header_frame(text);
     match frame {
-        Frame::Bad => ReadAnswer::Line(1),
-        Frame::Is(f) => {
-            let kind = f.kind;
-            match kind {
-                0 => after_header(text, f, head, nodes),
-                _ => ReadAnswer::Line(1),
-            }
-        }
+        Frame::Bad => ReadAnswer::Line(HEADER_LINE),
+        Frame::Is(f) => after_header(text, f, head, nodes),
     }
 }

@@ -21,7 +21,9 @@ returns-4 c = rw (c .match .keys4)
 
 returns-5 : tie.Need-returns-5
 unfolding isWidth
-returns-5 c = simp (ne-eqb _ _ (c .match .rest .0 .0 .0 .1), ne-eqb _ _ (c .match .rest .0 .0 .1), ne-eqb _ _ (c .match .rest .0 .1), ne-eqb _ _ (c .match .rest .1))
+returns-5 c =
+    let r = c .match .rest in
+    simp (ne-eqb _ 1 (r .0 .0 .0 .1), ne-eqb _ 2 (r .0 .0 .1), ne-eqb _ 4 (r .0 .1), ne-eqb _ 8 (r .1))
 
 pub is-width-spec : {M : Type 1} → statement M
 is-width-spec = tie.close (tie.spec returns returns-2 returns-3 returns-4 returns-5)

@@ -41,7 +41,8 @@ unfolding rowOk
 returns-5 c =
     let a = c .before .args in
     let r = c .match .rest in
-    no-node-kind (λ (kind : ℕ). false ≡ rowOk 16 (widthBytes (a .width)) kind (a .x) (a .y)) refl (λ k. refl) (a .kind) (r .0 .0 .0 .1) (r .0 .0 .1) (r .0 .1) (r .1)
+    no-node-kind (λ (kind : ℕ). false ≡ rowOk 16 (widthBytes (a .width)) kind (a .x) (a .y)) refl (λ k. refl) (a .kind)
+    (r .0 .0 .0 .1) (r .0 .0 .1) (r .0 .1) (r .1)
 
 pub row-ok-spec : {M : Type 1} → statement M
 row-ok-spec =

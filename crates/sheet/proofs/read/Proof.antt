@@ -39,8 +39,8 @@ returns-3 c =
     let first = second .before .before .before .before in
     let room = first .before .before in
     let a = room .before .before .before .before .before .args in
-    read-into _ (a .head .now) (a .nodes .now) _ _ (read .sheet .result) _ _ (room .before .if1 .left) (room .if2 .left) (first .clear .kept .0) (second .clear2 .kept .0)
-    (read .sheet .ensures)
+    read-into _ (a .head .now) (a .nodes .now) _ _ (read .sheet .result) _ _ (room .before .if1 .left) (room .if2 .left)
+    (first .clear .kept .0) (second .clear2 .kept .0) (read .sheet .ensures)
 
 pub read-spec : {M : Type 1} → statement M
 read-spec =

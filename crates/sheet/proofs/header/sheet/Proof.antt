@@ -1,15 +1,17 @@
--- No frame, another frame than a header, or what comes after it.
+-- No header on line 1, or what comes after it.
 use mathlib.Core.Path.{sym, _∙_}
-use borrow.Author.Tests.{eq-eqb, ne-eqb}
+use borrow.Author.Tests.{eq-eqb}
+use Rattle.rules.specs.Frames.{frameAt}
 use Rattle.rules.specs.Reading.{sheetBy, sheetOf}
 use Rattle.rules.specs.declared.answers.ReadAnswer.the-variants.{Line}
+use Rattle.sheet.proofs.FrameLaws.{header-is, header-none}
 use Rattle.sheet.proofs.SheetLaws.{kept, header-within}
 use borrow.Author.Needs.{needs}
 use Rattle.sheet.proofs.header.sheet.Statement.{statement}
 use Rattle.sheet.proofs.header.sheet.Tie as tie
 
-frame-at-requires : tie.Need-frame-at-requires
-frame-at-requires c κs = search needs
+header-frame-requires : tie.Need-header-frame-requires
+header-frame-requires c κs = search needs
 
 enum-told : tie.Need-enum-told
 enum-told c = search needs
@@ -19,13 +21,15 @@ enum-known-frame c = search needs
 
 after-header-requires : tie.Need-after-header-requires
 after-header-requires c κs =
-    let f = c .before .before .before .before in
-    (header-within _ _ (sym (f .before .before .frame-at .ensures) ∙ f .frame .given .1), f .before .before .before .before .before .before .pre)
+    let f = c .before .before .before in
+    let h = header-is (frameAt (f .before .before .before .before .before .before .args .text .now) 0) _ (sym (f .before .before .header-frame .ensures) ∙ f .frame .given .1) in
+    (header-within _ _ (h .0), f .before .before .before .before .before .before .pre)
 
 returns : tie.Need-returns
-unfolding sheetOf sheetBy
+unfolding sheetOf
 returns c =
-    rw (← c .before .before .frame-at .ensures, c .enum-told .given .1) (kept (Line 1) _ _ (c .before .before .before .before .before .before .pre))
+    let z = c .before .before .before .before .before .before .pre in
+    rw (header-none _ (frameAt (c .before .before .before .before .before .before .args .text .now) 0) (sym (c .before .before .header-frame .ensures) ∙ c .enum-told .given .1)) (kept (Line 1) _ _ z)
 
 same-length : tie.Need-same-length
 same-length c = search needs
@@ -37,25 +41,19 @@ returns-2 : tie.Need-returns-2
 unfolding sheetOf sheetBy
 returns-2 c =
     let after = c .before .before .before .before in
-    let f = after .before .before .before .before .before in
-    rw (← f .before .before .frame-at .ensures, f .frame .given .1, eq-eqb _ 0 (after .before .before .before .match2 .keys1)) (after .after-header .ensures)
-
-returns-3 : tie.Need-returns-3
-unfolding sheetOf sheetBy
-returns-3 c =
-    let f = c .before .before in
-    rw (← f .before .before .frame-at .ensures, f .frame .given .1, ne-eqb _ 0 (c .match2 .rest .1)) (kept (Line 1) _ _ (f .before .before .before .before .before .before .pre))
+    let f = after .before .before .before .before in
+    let h = header-is (frameAt (f .before .before .before .before .before .before .args .text .now) 0) _ (sym (f .before .before .header-frame .ensures) ∙ f .frame .given .1) in
+    rw (h .0, eq-eqb _ 0 (h .1)) (after .after-header .ensures)
 
 pub sheet-spec : {M : Type 1} → statement M
 sheet-spec =
     tie.close
     (tie.spec
-    frame-at-requires
+    header-frame-requires
     enum-told
     enum-known-frame
     after-header-requires
     returns
     same-length
     same-length-2
-    returns-2
-    returns-3)
+    returns-2)

@@ -7,7 +7,9 @@ use Rattle.sheet.proofs.line.end_line.Tie as tie
 
 returns : tie.Need-returns
 unfolding endLine
-returns c = rw (ne-eqb _ _ (c .if1 .taken))
+returns c =
+    let a = c .before .before .before .args in
+    rw (ne-eqb (a .f .x) (a .here .count) (c .if1 .taken))
 
 returns-2 : tie.Need-returns-2
 unfolding endLine

@@ -28,13 +28,16 @@ clear-requires : tie.Need-clear-requires Inv-loop μ-loop
 clear-requires c κs = tt
 
 same-length : tie.Need-same-length Inv-loop μ-loop
-same-length c = c .before .before .clear .kept .0 ∙ c .before .before .before .before .before .before .before .before .loop .inv .long
+same-length c =
+    let cleared = c .before .before in
+    cleared .clear .kept .0 ∙ cleared .before .before .before .before .before .before .loop .inv .long
 
 returns : tie.Need-returns Inv-loop μ-loop
 returns c =
-    let l = c .before .before .before .before .before .before .before .before in
-    stops _ _ _ _ (l .loop .inv) _ _
-    (sym (c .before .before .before .before .before .before .before .line-at .ensures) ∙ c .before .before .before .before .before .step .given .1) (c .before .before .clear .ensures)
+    let cleared = c .before .before in
+    let s = cleared .before .before .before in
+    let line = s .before .before in
+    stops _ _ _ _ (line .before .loop .inv) _ _ (sym (line .line-at .ensures) ∙ s .step .given .1) (cleared .clear .ensures)
 
 enum-told : tie.Need-enum-told Inv-loop μ-loop
 enum-told c = search needs
@@ -51,8 +54,9 @@ enum-known-step-2 c = search needs
 
 cast-k : tie.Need-cast-k Inv-loop μ-loop
 cast-k c =
-    let l = c .before .before .before .before .before in
-    let n = node-after _ _ _ _ (l .loop .inv) _ _ (sym (c .before .before .before .before .line-at .ensures) ∙ c .before .before .step2 .given .1) in
+    let s = c .before .before in
+    let line = s .before .before in
+    let n = node-after _ _ _ _ (line .before .loop .inv) _ _ (sym (line .line-at .ensures) ∙ s .step2 .given .1) in
     omega arith
 
 put-row-requires : tie.Need-put-row-requires Inv-loop μ-loop
@@ -60,15 +64,18 @@ put-row-requires c κs = tt
 
 loop-less : tie.Need-loop-less Inv-loop μ-loop
 loop-less c =
-    let l = c .before .before .before .before .before .before .before .before .before in
-    let n = node-after _ _ _ _ (l .loop .inv) _ _ (sym (c .before .before .before .before .before .before .before .before .line-at .ensures) ∙ c .before .before .before .before .before .before .step2 .given .1) in
+    let s = c .before .before .before .before .before .before in
+    let line = s .before .before in
+    let n = node-after _ _ _ _ (line .before .loop .inv) _ _ (sym (line .line-at .ensures) ∙ s .step2 .given .1) in
     omega arith
 
 loop-again : tie.Need-loop-again Inv-loop μ-loop
 loop-again c =
-    let l = c .before .before .before .before .before .before .before .before .before in
+    let s = c .before .before .before .before .before .before in
+    let line = s .before .before in
+    let l = line .before in
     rw (c .before .before .put-row .ensures)
-    (more _ _ _ _ (l .loop .inv) _ _ (sym (c .before .before .before .before .before .before .before .before .line-at .ensures) ∙ c .before .before .before .before .before .before .step2 .given .1) (l .before .before .before .pre .1 .0))
+    (more _ _ _ _ (l .loop .inv) _ _ (sym (line .line-at .ensures) ∙ s .step2 .given .1) (l .before .before .before .pre .1 .0))
 
 pub read-lines-spec : {M : Type 1} → statement M
 read-lines-spec =
