@@ -8,16 +8,20 @@ use borrow.Author.Tests.{le-ltb, ne-eqb}
 use lib.Dec.{eqb}
 use lib.ListN.{length, set}
 use Rattle.rules.specs.Limits.{vectorBytes}
-use Rattle.rules.specs.Answers.{Answer, ROOM, at, ofTranslate}
+use Rattle.rules.specs.Answers.{Answer, ROOM, at, ofTranslate, ofPlan}
 use Rattle.rules.specs.Machine.{Program}
 use Rattle.rules.specs.Tables.{Graph, graphOf, programHead, noProgram, padded, tableLeft, headLeft}
-use Rattle.rules.specs.Calls.{WithProgram, graphProgram, programLeft, translateAnswer, translating}
+use Rattle.rules.specs.Calls.{WithProgram, graphProgram, programLeft, translateAnswer, translating, placedGraph, planAnswer, planning}
 use Rattle.rules.specs.declared.answers.TranslateAnswer.{TranslateAnswer}
 use Rattle.rules.specs.declared.answers.TranslateAnswer.the-variants as Translate
+use Rattle.rules.specs.declared.answers.PlanAnswer.{PlanAnswer}
+use Rattle.rules.specs.declared.answers.PlanAnswer.the-variants as Plan
 use Rattle.rules.specs.declared.program.ProgramHead.{ProgramHead}
 use Rattle.tables.proofs.TableLaws.{padded-put}
 use Rattle.code.specs.Emitting.{programGiven}
 use Rattle.code.specs.declared.Translated.{Translated}
+use Rattle.planner.specs.Planning.{planGiven}
+use Rattle.planner.specs.declared.Planned.{Planned}
 use Rattle.board.specs.Packed.{placeUnit, pack, packed}
 use Rattle.board.specs.Programs.{programEntries, inEntries, programAfter, PackedProgram, packedProgram, handed}
 
@@ -89,3 +93,28 @@ translated-handed head nodes workLen tableLen program P B E made P′ B′ E′ 
     let same : ofTranslate (made .answer) ≡ a = ap (λ (r : WithProgram). r .answer) e in
     let told : RoomTold a = rw same at (translate-room-told (made .answer)) in
     ap (given program) e ∙ given-handed a (g .D) (graphProgram vectorBytes g) program P B E room told
+
+plan-room-told : (a : PlanAnswer) → RoomTold (ofPlan a)
+plan-room-told Plan.Done = refl
+plan-room-told Plan.Room = refl
+plan-room-told (Plan.Range p) = other-told 3 p refl (omega arith)
+plan-room-told (Plan.Shape p) = other-told 4 p refl (omega arith)
+plan-room-told (Plan.Bare p) = other-told 5 p refl (omega arith)
+plan-room-told (Plan.Window p) = other-told 6 p refl (omega arith)
+plan-room-told (Plan.Align p) = other-told 7 p refl (omega arith)
+plan-room-told (Plan.Bounds p) = other-told 8 p refl (omega arith)
+plan-room-told (Plan.Carry p) = other-told 9 p refl (omega arith)
+plan-room-told (Plan.Offset p) = other-told 10 p refl (omega arith)
+plan-room-told Plan.Long = refl
+
+pub planned-handed : (rule : ℕ) (head nodes : List ℕ) (workLen tableLen : ℕ) (program P B E : List ℕ) (made : Planned) (P′ B′ E′ : List ℕ)
+    → programEntries ≤ length program
+    → planGiven made P′ B′ E′ ≡ planning vectorBytes rule head nodes workLen tableLen P B E
+    → given program (planGiven made P′ B′ E′) ≡ handed program P B E (planning vectorBytes rule head nodes workLen tableLen P B E)
+unfolding planning
+planned-handed rule head nodes workLen tableLen program P B E made P′ B′ E′ room e =
+    let g : Graph = graphOf head nodes in
+    let a : Answer = planAnswer vectorBytes rule head nodes workLen tableLen P B E in
+    let same : ofPlan (made .answer) ≡ a = ap (λ (r : WithProgram). r .answer) e in
+    let told : RoomTold a = rw same at (plan-room-told (made .answer)) in
+    ap (given program) e ∙ given-handed a (g .D) (graphProgram vectorBytes (placedGraph vectorBytes rule g)) program P B E room told

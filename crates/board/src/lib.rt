@@ -9,6 +9,7 @@ use crate::packing::packed_check;
 use crate::packing::packed_offset;
 use crate::packing::packed_place;
 use crate::packing::packed_plain;
+use crate::packing::packed_plan;
 use crate::packing::packed_read;
 use crate::packing::packed_run;
 use crate::packing::packed_translate;
@@ -17,7 +18,7 @@ use crate::programs::leave_program;
 use rules::program::ProgramHead;
 ghost use mathlib.Core.Path.{_≡_};
 ghost use Rattle.rules.specs.Limits.{vectorBytes};
-ghost use Rattle.rules.specs.Calls.{reading, checking, offsetChecking, looping, placing, translating, running};
+ghost use Rattle.rules.specs.Calls.{reading, checking, offsetChecking, looping, placing, translating, planning, running};
 ghost use Rattle.board.specs.Packed.{packed, packedSheet, ofWithSheet, packedWork, ofWithWork};
 ghost use Rattle.board.specs.Programs.{headOf, packedProgram, handed};
 
@@ -93,6 +94,41 @@ pub extern "C" fn sinkerjaw_translate(
     let told = made.answer;
     let made_head = made.head;
     let answer = packed_translate(told);
+    leave_program(answer, made_head, program);
+    answer
+}
+
+// Places a bare sheet by a rule and translates it, in one step.
+#[no_mangle]
+pub extern "C" fn sinkerjaw_plan(
+    rule: u64,
+    head: &[u64],
+    nodes: &[u64],
+    work_len: u64,
+    table_len: u64,
+    program: &mut [u64],
+    prologue: &mut [u32],
+    body: &mut [u32],
+    epilogue: &mut [u32],
+) -> u64
+    ensures { λ r. ⌜ packedProgram r (now (program .exit)) (now (prologue .exit)) (now (body .exit)) (now (epilogue .exit)) ≡ handed (now (program .entry)) (now (prologue .entry)) (now (body .entry)) (now (epilogue .entry)) (planning vectorBytes rule (now (head .entry)) (now (nodes .entry)) «work_len» «table_len» (now (prologue .entry)) (now (body .entry)) (now (epilogue .entry))) ⌝ }
+{
+    if program.len() < PROGRAM_ENTRIES {
+        return joined(ROOM, 0, 0);
+    }
+    let made = planner::plan(
+        rule,
+        head,
+        nodes,
+        work_len,
+        table_len,
+        prologue,
+        body,
+        epilogue,
+    );
+    let told = made.answer;
+    let made_head = made.head;
+    let answer = packed_plan(told);
     leave_program(answer, made_head, program);
     answer
 }

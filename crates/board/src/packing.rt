@@ -3,11 +3,12 @@ use rules::answers::CheckAnswer;
 use rules::answers::OffsetAnswer;
 use rules::answers::PlaceAnswer;
 use rules::answers::PlainAnswer;
+use rules::answers::PlanAnswer;
 use rules::answers::ReadAnswer;
 use rules::answers::RunAnswer;
 use rules::answers::TranslateAnswer;
 ghost use mathlib.Core.Path.{_≡_};
-ghost use Rattle.rules.specs.Answers.{ofRead, ofCheck, ofOffset, ofPlain, ofPlace, ofTranslate, ofRun};
+ghost use Rattle.rules.specs.Answers.{ofRead, ofCheck, ofOffset, ofPlain, ofPlace, ofTranslate, ofRun, ofPlan};
 ghost use Rattle.board.specs.Packed.{pack, packed};
 
 // The answers' numbers.
@@ -129,6 +130,24 @@ pub(crate) fn packed_translate(answer: TranslateAnswer) -> u64
         TranslateAnswer::Carry(line) => joined(CARRY, line, 0),
         TranslateAnswer::Offset(line) => joined(OFFSET, line, 0),
         TranslateAnswer::Long => joined(LONG, 0, 0),
+    }
+}
+
+pub(crate) fn packed_plan(answer: PlanAnswer) -> u64
+    ensures { λ r. ⌜ r ≡ packed (ofPlan answer) ⌝ }
+{
+    match answer {
+        PlanAnswer::Done => joined(DONE, 0, 0),
+        PlanAnswer::Room => joined(ROOM, 0, 0),
+        PlanAnswer::Range(line) => joined(RANGE, line, 0),
+        PlanAnswer::Shape(line) => joined(SHAPE, line, 0),
+        PlanAnswer::Bare(line) => joined(BARE, line, 0),
+        PlanAnswer::Window(window) => joined(WINDOW, window, 0),
+        PlanAnswer::Align(line) => joined(ALIGN, line, 0),
+        PlanAnswer::Bounds(line) => joined(BOUNDS, line, 0),
+        PlanAnswer::Carry(line) => joined(CARRY, line, 0),
+        PlanAnswer::Offset(line) => joined(OFFSET, line, 0),
+        PlanAnswer::Long => joined(LONG, 0, 0),
     }
 }
 

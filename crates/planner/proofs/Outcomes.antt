@@ -19,12 +19,13 @@ module _ (rule : ℕ) (head nodes : List ℕ) (workLen tableLen : ℕ) (prologue
   pub one-outcome : (r s : Planned) (p p′ b b′ e e′ : List ℕ) → Allowed r p b e → Allowed s p′ b′ e′
       → (r .answer ≡ s .answer) × (r .head ≡ s .head) × (p ≡ p′) × (b ≡ b′) × (e ≡ e′)
   one-outcome r s p p′ b b′ e e′ x y =
-      let same : planGiven r p b e ≡ planGiven s p′ b′ e′ = x ∙ sym y in
-      (plan-told-apart (r .answer) (s .answer) (ap (λ (w : WithProgram). w .answer) same),
-          ap (λ (w : WithProgram). w .head) same,
-          ap (λ (w : WithProgram). w .prologue) same,
-          ap (λ (w : WithProgram). w .body) same,
-          ap (λ (w : WithProgram). w .epilogue) same)
+      let same : planGiven r p b e ≡ planGiven s p′ b′ e′ = x ∙ sym y in (
+        plan-told-apart (r .answer) (s .answer) (ap (λ (w : WithProgram). w .answer) same),
+        ap (λ (w : WithProgram). w .head) same,
+        ap (λ (w : WithProgram). w .prologue) same,
+        ap (λ (w : WithProgram). w .body) same,
+        ap (λ (w : WithProgram). w .epilogue) same,
+      )
 
   pub refusal-leaves : (r : Planned) (p b e : List ℕ) → Allowed r p b e → ProgramLeaves (planGiven r p b e) prologue body epilogue
   refusal-leaves r p b e x = rw (← x) at (planning-leaves vectorBytes rule head nodes workLen tableLen prologue body epilogue)
