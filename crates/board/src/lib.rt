@@ -1,25 +1,25 @@
 // The library for callers in C and Rust: each public call under one name, with numbers and lent tables only. A lent table is a
 // pointer and then its length. docs/CALLERS.md has every call and every answer.
-mod packing;
 mod programs;
 
-use crate::packing::ROOM;
-use crate::packing::joined;
-use crate::packing::packed_check;
-use crate::packing::packed_offset;
-use crate::packing::packed_place;
-use crate::packing::packed_plain;
-use crate::packing::packed_plan;
-use crate::packing::packed_read;
-use crate::packing::packed_run;
-use crate::packing::packed_translate;
 use crate::programs::PROGRAM_ENTRIES;
 use crate::programs::leave_program;
+use packing::ROOM;
+use packing::joined;
+use packing::packed_check;
+use packing::packed_offset;
+use packing::packed_place;
+use packing::packed_plain;
+use packing::packed_plan;
+use packing::packed_read;
+use packing::packed_run;
+use packing::packed_translate;
 use rules::program::ProgramHead;
 ghost use mathlib.Core.Path.{_≡_};
 ghost use Rattle.rules.specs.Limits.{vectorBytes};
 ghost use Rattle.rules.specs.Calls.{reading, checking, offsetChecking, looping, placing, translating, planning, running};
-ghost use Rattle.board.specs.Packed.{packed, packedSheet, ofWithSheet, packedWork, ofWithWork};
+ghost use Rattle.packing.specs.Packed.{packed};
+ghost use Rattle.board.specs.Given.{packedSheet, ofWithSheet, packedWork, ofWithWork};
 ghost use Rattle.board.specs.Programs.{headOf, packedProgram, handed};
 
 // Reads a loop sheet into two tables.

@@ -1,5 +1,5 @@
 // The program table: the head of a program, which C is lent a table for where Rattle has a struct.
-use crate::packing::ROOM;
+use packing::ROOM;
 use rules::program::ProgramHead;
 ghost use mathlib.Core.Path.{_≡_};
 ghost use Prim.Native.Nat.{_≤_};

@@ -1,6 +1,6 @@
 -- The call meets the definition, and its answer is packed.
 use mathlib.Core.Path.{ap, _∙_}
-use Rattle.board.specs.Packed.{packed}
+use Rattle.packing.specs.Packed.{packed}
 use borrow.Author.Needs.{needs}
 use Rattle.board.proofs.sinkerjaw_offset_check.Statement.{statement}
 use Rattle.board.proofs.sinkerjaw_offset_check.Tie as tie

@@ -1,6 +1,6 @@
 -- The call meets the definition, its answer is packed, and what it leaves is left.
 use mathlib.Core.Path.{ap}
-use Rattle.board.specs.Packed.{ofWithSheet}
+use Rattle.board.specs.Given.{ofWithSheet}
 use borrow.Author.Needs.{needs}
 use Rattle.board.proofs.sinkerjaw_place.Statement.{statement}
 use Rattle.board.proofs.sinkerjaw_place.Tie as tie
