@@ -15,6 +15,7 @@ pub mod machine;
 pub mod paper;
 pub mod placing;
 pub mod plain;
+pub mod printing;
 pub mod programs;
 pub mod random;
 pub mod rows;
