@@ -7,6 +7,7 @@ pub mod careful;
 pub mod careful_loop;
 pub mod careful_sheet;
 pub mod cases;
+pub mod documents;
 pub mod graph;
 pub mod graphs;
 pub mod handed;

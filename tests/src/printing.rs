@@ -13,7 +13,7 @@ pub const PLACES_BYTES: usize = 2048;
 /// as many as a cases file may have
 pub const EDGES_BYTES: usize = 65_536;
 /// "takes both windows at 65,536 bytes"
-const WINDOWS: [u64; 2] = [65_536; 2];
+pub const WINDOWS: [u64; 2] = [65_536; 2];
 /// The rule's byte of a graph that is translated as it is drawn.
 const DRAWN: u64 = 0xFF;
 
