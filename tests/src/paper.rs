@@ -3,12 +3,13 @@
 use crate::calls::Calls;
 use crate::graph::{size, Checking, Node, Sheet};
 use crate::machine::{put_element, refused, Document};
+use crate::printing::{line, Figures};
 use crate::sheets::{lines, text};
 use crate::tables::{HEAD_ENTRIES, NODES_MOST, NODE_ENTRIES, PROGRAM_ENTRIES, SECTION_ENTRIES};
 use crate::texts::SHEETS;
 use crate::{Answer, Head, BOUNDS, CARRY, DONE, LINE, LONG, SHAPE};
 
-const PRINTED: &str = "0000000400170000013C\n01000003000B000000A0\n02000003000B000000A0\n03000002000F000000D4\n";
+pub const PRINTED: &str = "0000000400170000013C\n01000003000B000000A0\n02000003000B000000A0\n03000002000F000000D4\n";
 
 const WINDOW_BYTES: u64 = 65_536;
 
@@ -61,31 +62,25 @@ fn places(calls: &Calls, text: &[u8]) -> String {
 
 fn places_line(calls: &Calls, rule: u64, reading: Answer, head: &[u64], nodes: &[u64]) -> String {
     if reading.number != DONE {
-        return refused_line(rule, reading.number, reading.place);
+        return line(rule, Err(reading));
     }
     let (mut placed_head, mut placed_nodes) = (vec![0; HEAD_ENTRIES], vec![0; NODE_ENTRIES * NODES_MOST]);
     let (mut program, mut sections) = ([0; PROGRAM_ENTRIES], [(); 3].map(|()| vec![0; SECTION_ENTRIES]));
     let lent = sections.each_mut().map(|section| &mut section[..]);
     let answer = (calls.plan)(rule, head, nodes, [WINDOW_BYTES; 2], &mut program, lent);
     if answer.number != DONE {
-        return refused_line(rule, answer.number, answer.place);
+        return line(rule, Err(answer));
     }
     (calls.place)(rule, head, nodes, &mut placed_head, &mut placed_nodes);
     let placed = Document::checked(&placed_head, &placed_nodes).expect("a sheet that was placed");
-    let shifts = placed.nodes.iter().filter(|node| matches!(node, Node::Shift { .. })).count();
     let [d, f, prologue, body, epilogue] = program;
     let program = Head { d, f, prologue, body, epilogue };
-    let steps = run(calls, &program, &sections);
-    format!("{rule:02X}0000{shifts:02X}{:04X}{steps:08X}\n", size(&placed.nodes))
-}
-
-fn refused_line(rule: u64, number: u64, place: u64) -> String {
-    format!("{rule:02X}{number:02X}{place:02X}00000000000000\n")
+    line(rule, Ok(Figures { steps: run(calls, &program, &sections), ..Figures::of(&placed) }))
 }
 
 /// "a reading refusal stands on all four lines"
 fn refused_lines(number: u64, place: u64) -> String {
-    (0..4).map(|rule| refused_line(rule, number, place)).collect()
+    (0..4).map(|rule| line(rule, Err(refused(number, place)))).collect()
 }
 
 /// The steps of a whole run over windows of zeros.

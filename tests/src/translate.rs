@@ -148,11 +148,17 @@ pub trait Planning: Placing + Translating {
     fn planning(rule: u64, head: &[u64], nodes: &[u64], lengths: [u64; 2]) -> Result<Translated, Answer> {
         Self::rule(rule)?;
         let sheet = Self::checked(head, nodes)?;
-        Self::planning_judged(&sheet, lengths)?;
-        let placed = Self::placed(rule, &sheet);
+        let placed = Self::planned(rule, &sheet, lengths)?;
+        Ok(Self::translated(&placed))
+    }
+
+    /// The placed graph that is translated.
+    fn planned(rule: u64, sheet: &Sheet, lengths: [u64; 2]) -> Result<Sheet, Answer> {
+        Self::planning_judged(sheet, lengths)?;
+        let placed = Self::placed(rule, sheet);
         Self::offsets(&placed)?;
         Self::length(&placed)?;
-        Ok(Self::translated(&placed))
+        Ok(placed)
     }
 
     /// "with 5 to 9 judged on the bare sheet and its lines"
