@@ -21,6 +21,7 @@ pub mod rows;
 pub mod sheet;
 pub mod sheets;
 pub mod show;
+pub mod synthesized;
 pub mod tables;
 pub mod texts;
 pub mod timings;
