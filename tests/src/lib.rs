@@ -9,6 +9,7 @@ pub mod careful_sheet;
 pub mod cases;
 pub mod graph;
 pub mod graphs;
+pub mod growth;
 pub mod handed;
 pub mod loops;
 pub mod machine;
