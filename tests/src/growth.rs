@@ -9,6 +9,7 @@ use crate::machine::Document;
 use crate::placing::{Placing, LAZY, ZERO};
 use crate::random::Random;
 use crate::sheets::Setting;
+use crate::synthesized::sum;
 use crate::timings::{handed, round, Row, ROUNDS, WINDOW_BYTES};
 use crate::DONE;
 
@@ -16,9 +17,6 @@ const TRIPS: u64 = 1_000;
 
 /// Calls in one round.
 const TIMES: u32 = 200;
-
-/// What each array has of a window: TRIPS elements of four bytes, and their offset.
-const ARRAY_BYTES: u64 = 4_096;
 
 /// A graph with its times, the least so far.
 struct Grown {
@@ -67,16 +65,9 @@ impl Grown {
     }
 }
 
-/// A sum of loads at offsets 4 and 8 by turns, each from an array of its own, stored at offset 12.
-fn sum(loads: u64) -> Sheet {
-    let mut nodes = Vec::new();
-    for load in 1..=loads {
-        nodes.push(Node::Load { window: load % 2, address: ARRAY_BYTES * (load / 2) + 8 - 4 * (load % 2) });
-        if load > 1 {
-            nodes.push(Node::Op(0));
-        }
-    }
-    Sheet { d: 4, n: TRIPS, store: ARRAY_BYTES * (loads / 2 + 1) + 12, nodes }
+/// Loads at offsets 4 and 8 by turns, stored at offset 12.
+fn misaligned(loads: u64) -> Sheet {
+    sum(4, TRIPS, loads, |reference| if reference == 0 { 12 } else { 8 - 4 * (reference % 2) })
 }
 
 /// A load under an even number of shifts, from offset 0 to 8 and back.
@@ -92,21 +83,16 @@ fn largest() -> Sheet {
     setting.sheet(setting.graph_of_size(&mut Random::new(7), 1019, setting.offset()))
 }
 
-/// The printed sheet without its shifts.
-fn bare_printed(n: u64) -> Sheet {
-    let mut sheet = printed(n, 0x8006);
-    sheet.nodes.retain(|node| !matches!(node, Node::Shift { .. }));
-    sheet
-}
-
 fn all() -> Vec<Grown> {
     let mut all = Vec::new();
     for (name, rule) in [("a sum by LAZY", LAZY), ("a sum by ZERO", ZERO)] {
-        all.extend([1, 2, 4, 8, 16].map(|loads| Grown::placed(name, rule, &sum(loads))));
+        all.extend([1, 2, 4, 8, 16].map(|loads| Grown::placed(name, rule, &misaligned(loads))));
     }
     all.extend([0, 2, 4, 6, 8].map(|shifts| Grown::drawn("a load under shifts", chain(shifts))));
     all.push(Grown::drawn("the largest G", largest()));
-    all.extend([0, 1, 10, 100, 1_000, 4_096].map(|n| Grown::placed("the printed sheet by LAZY", LAZY, &bare_printed(n))));
+    all.extend(
+        [0, 1, 10, 100, 1_000, 4_096].map(|n| Grown::placed("the printed sheet by LAZY", LAZY, &printed(n, 0x8006).bare())),
+    );
     all
 }
 

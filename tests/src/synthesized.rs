@@ -18,25 +18,27 @@ const ARRAY_BYTES: u64 = 4_096;
 /// "we use add as the sole arithmetic operation"
 const ADD: u64 = 0;
 
-/// Every reference, the store too, has the loop's favoured alignment with the bias, else any. The store's array is the first
-/// of work; the loads' arrays are in table and in work by turns.
-pub fn sheet(random: &mut Random, d: u64, loads: u64) -> Sheet {
-    let b = 16 / d;
-    let n = TRIPS_MOST - random.below(b);
-    let favoured = random.below(b);
-    let mut address = |array: u64| {
-        let alignment = if random.below(100) < BIAS_PERCENT { favoured } else { random.below(b) };
-        ARRAY_BYTES * array + d * alignment
-    };
+/// A sum of loads, each reference at the offset of its number: the store is 0, the loads follow. The store's array is the first of
+/// work; the loads' arrays are in table and in work by turns.
+pub fn sum(d: u64, n: u64, loads: u64, mut offset: impl FnMut(u64) -> u64) -> Sheet {
+    let mut address = |reference: u64| ARRAY_BYTES * (reference / 2) + offset(reference);
     let store = address(0);
     let mut nodes = Vec::new();
     for load in 1..=loads {
-        nodes.push(Node::Load { window: load % 2, address: address(load / 2) });
+        nodes.push(Node::Load { window: load % 2, address: address(load) });
         if load > 1 {
             nodes.push(Node::Op(ADD));
         }
     }
     Sheet { d, n, store, nodes }
+}
+
+/// Every reference, the store too, has the loop's favoured alignment with the bias, else any.
+pub fn sheet(random: &mut Random, d: u64, loads: u64) -> Sheet {
+    let b = 16 / d;
+    let n = TRIPS_MOST - random.below(b);
+    let favoured = random.below(b);
+    sum(d, n, loads, |_| d * if random.below(100) < BIAS_PERCENT { favoured } else { random.below(b) })
 }
 
 /// SEQ, operations an element: "6 loads, 5 adds, and 1 store" are 12.

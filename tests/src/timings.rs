@@ -49,8 +49,7 @@ fn sheets() -> (Sheet, Sheet, Sheet) {
 
 fn rows() -> Vec<Row> {
     let (bare, graph, long) = sheets();
-    let mut bare_printed = printed(100, 0x8006);
-    bare_printed.nodes.retain(|node| !matches!(node, crate::graph::Node::Shift { .. }));
+    let bare_printed = printed(100, 0x8006).bare();
     let mut rows = vec![
         reading("the printed sheet", SHEETS[0].as_bytes()),
         reading("64 nodes", &text(&lines(&graph))),
