@@ -10,10 +10,13 @@ use crate::placing::{Placing, LAZY, ZERO};
 use crate::random::Random;
 use crate::sheets::Setting;
 use crate::synthesized::sum;
-use crate::timings::{handed, round, Row, ROUNDS, WINDOW_BYTES};
+use crate::timings::{handed, round, Row, WINDOW_BYTES};
 use crate::DONE;
 
 const TRIPS: u64 = 1_000;
+
+/// Enough of them that the least times come again in the next run, also while the machine does other work.
+const ROUNDS: usize = 100;
 
 /// Calls in one round.
 const TIMES: u32 = 200;

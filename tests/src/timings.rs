@@ -12,7 +12,7 @@ use crate::texts::SHEETS;
 use std::hint::black_box;
 use std::time::Instant;
 
-pub const ROUNDS: usize = 15;
+const ROUNDS: usize = 15;
 pub const WINDOW_BYTES: u64 = 65_536;
 
 pub struct Row {
