@@ -66,6 +66,12 @@ impl Sheet {
         self.nodes.iter().flat_map(|node| node.row()).collect()
     }
 
+    /// Without its shifts.
+    pub fn bare(mut self) -> Sheet {
+        self.nodes.retain(|node| !matches!(node, Node::Shift { .. }));
+        self
+    }
+
     /// Line, window and address of each load.
     pub fn loads(&self) -> impl Iterator<Item = (u64, u64, u64)> + '_ {
         self.nodes.iter().enumerate().filter_map(|(k, node)| match *node {

@@ -2,8 +2,9 @@
 //!
 //!     outside               every family against the library; exit status 1 at the first difference
 //!     outside --times N     N times as many cases
-//!     outside --long        fifty times as many cases
 //!     outside --seed S      other cases; 0 is the usual seed
+//!     outside --seeds A B   the cases of every seed from A to B
+//!     outside --long        the long run: seeds 1 to 10, more than ten million cases
 //!     outside --careful     the benchmark's Rust in the library's place
 //!     outside --self-check  the families against implementations that are wrong on purpose: each must be found
 //!     outside --wrong NAME  one of those in the library's place, which shows how a difference looks
@@ -14,7 +15,11 @@ use outside::cases::{keeps_plain_loop, observe, Case, Family, Outcome};
 use outside::show::print_difference;
 use outside::wrong_calls::Wrong;
 use outside::{careful, graphs, handed, paper, programs, texts, windows, wrong_calls, DONE, FAULT};
+use std::ops::RangeInclusive;
 use std::process::ExitCode;
+
+const USUAL_SEEDS: RangeInclusive<u64> = 0..=0;
+const LONG_SEEDS: RangeInclusive<u64> = 1..=10;
 
 fn families() -> Vec<&'static Family> {
     let modules = [programs::FAMILIES, texts::FAMILIES, handed::FAMILIES, windows::FAMILIES, graphs::FAMILIES];
@@ -60,15 +65,16 @@ fn whole(case: &Case, outcome: &Outcome) -> bool {
 }
 
 /// Every family against a set of calls, of which those linked are not the independent ones.
-fn compare(calls: &Calls, linked: &[Call], times: u64, seed: u64) -> ExitCode {
+fn compare(calls: &Calls, linked: &[Call], times: u64, seeds: RangeInclusive<u64>) -> ExitCode {
     if !keeps_paper("independent", &INDEPENDENT) || !keeps_paper("compared", calls) {
         return ExitCode::FAILURE;
     }
     let mut compared = Compared([[0; FAULT as usize + 1]; ALL.len()]);
     let mut total = 0;
+    println!("seeds {} to {}", seeds.start(), seeds.end());
     for family in families() {
         let (mut cases, mut done) = (0, 0);
-        for number in 0..family.cases * times {
+        for (seed, number) in seeds.clone().flat_map(|seed| (0..family.cases * times).map(move |number| (seed, number))) {
             let case = family.case(number, seed);
             if !case.calls.iter().any(|call| linked.contains(call)) {
                 continue;
@@ -138,27 +144,36 @@ fn find_wrong() -> bool {
 
 struct Arguments {
     times: u64,
-    seed: u64,
+    seeds: RangeInclusive<u64>,
     careful: bool,
     wrong: Option<String>,
     self_check: bool,
 }
 
+fn number(arguments: &mut impl Iterator<Item = String>) -> Option<u64> {
+    arguments.next()?.parse().ok()
+}
+
 fn arguments() -> Option<Arguments> {
-    let mut chosen = Arguments { times: 1, seed: 0, careful: false, wrong: None, self_check: false };
+    let mut chosen = Arguments { times: 1, seeds: USUAL_SEEDS, careful: false, wrong: None, self_check: false };
     let mut arguments = std::env::args().skip(1);
     while let Some(argument) = arguments.next() {
         match argument.as_str() {
-            "--times" => chosen.times = arguments.next()?.parse().ok()?,
-            "--long" => chosen.times = 50,
-            "--seed" => chosen.seed = arguments.next()?.parse().ok()?,
+            "--times" => chosen.times = number(&mut arguments)?,
+            "--seed" => {
+                let seed = number(&mut arguments)?;
+                chosen.seeds = seed..=seed;
+            }
+            "--seeds" => chosen.seeds = number(&mut arguments)?..=number(&mut arguments)?,
+            "--long" => chosen.seeds = LONG_SEEDS,
             "--careful" => chosen.careful = true,
             "--wrong" => chosen.wrong = Some(arguments.next()?),
             "--self-check" => chosen.self_check = true,
             _ => return None,
         }
     }
-    Some(chosen)
+    // a run of no cases would find no difference
+    (chosen.times > 0 && !chosen.seeds.is_empty()).then_some(chosen)
 }
 
 fn status(right: bool) -> ExitCode {
@@ -170,24 +185,24 @@ fn status(right: bool) -> ExitCode {
 }
 
 fn main() -> ExitCode {
-    let Some(Arguments { times, seed, careful, wrong, self_check }) = arguments() else {
-        eprintln!("outside [--times N | --long] [--seed S] [--careful | --wrong NAME] | --self-check");
+    let Some(Arguments { times, seeds, careful, wrong, self_check }) = arguments() else {
+        eprintln!("outside [--times N] [--seed S | --seeds A B | --long] [--careful | --wrong NAME] | --self-check");
         return ExitCode::from(2);
     };
     if self_check {
         return status(keeps_paper("independent", &INDEPENDENT) && find_wrong());
     }
     if careful {
-        return compare(&careful::CALLS, careful::WRITTEN, times, seed);
+        return compare(&careful::CALLS, careful::WRITTEN, times, seeds);
     }
     if let Some(name) = wrong {
         return match wrong_calls::all().into_iter().find(|wrong| wrong.name == name) {
-            Some(wrong) => compare(&wrong.calls, wrong.concerns, times, seed),
+            Some(wrong) => compare(&wrong.calls, wrong.concerns, times, seeds),
             None => ExitCode::from(2),
         };
     }
     match library() {
-        Some(calls) => compare(&calls, LINKED, times, seed),
+        Some(calls) => compare(&calls, LINKED, times, seeds),
         None => {
             eprintln!("built without the library: `rt staticlib board`, then build again");
             ExitCode::from(2)

@@ -13,11 +13,11 @@ use std::hint::black_box;
 use std::time::Instant;
 
 const ROUNDS: usize = 15;
-const WINDOW_BYTES: u64 = 65_536;
+pub const WINDOW_BYTES: u64 = 65_536;
 
-struct Row {
+pub struct Row {
     name: String,
-    case: Case,
+    pub case: Case,
     /// how often it is called in one round
     times: u32,
 }
@@ -27,7 +27,7 @@ fn reading(name: &str, text: &[u8]) -> Row {
     Row { name: format!("read {name}, {} bytes", text.len()), case, times: 2_000 }
 }
 
-fn handed(name: &str, calls: &'static [Call], sheet: &Sheet, rule: u64, times: u32) -> Row {
+pub fn handed(name: &str, calls: &'static [Call], sheet: &Sheet, rule: u64, times: u32) -> Row {
     let (mut head, mut nodes) = (sheet.head().to_vec(), sheet.rows());
     head.resize(HEAD_ENTRIES, 0);
     nodes.resize(NODE_ENTRIES * NODES_MOST, 0);
@@ -49,8 +49,7 @@ fn sheets() -> (Sheet, Sheet, Sheet) {
 
 fn rows() -> Vec<Row> {
     let (bare, graph, long) = sheets();
-    let mut bare_printed = printed(100, 0x8006);
-    bare_printed.nodes.retain(|node| !matches!(node, crate::graph::Node::Shift { .. }));
+    let bare_printed = printed(100, 0x8006).bare();
     let mut rows = vec![
         reading("the printed sheet", SHEETS[0].as_bytes()),
         reading("64 nodes", &text(&lines(&graph))),
@@ -68,7 +67,7 @@ fn rows() -> Vec<Row> {
 }
 
 /// Nanoseconds a call; its tables are those that the calls before it left.
-fn round(row: &Row, calls: &Calls) -> f64 {
+pub fn round(row: &Row, calls: &Calls) -> f64 {
     let mut tables = row.case.tables.clone();
     let start = Instant::now();
     for _ in 0..row.times {

@@ -1,18 +1,20 @@
 //! The benchmark: nanoseconds an instruction for every kind and D, and a whole run of a translated loop, in the library and in
-//! a careful Rust machine; then the other calls that the library has. Both have the same program and windows in the same process, in turn, the best of several rounds;
-//! windows are filled before the first round and not cleared between.
+//! a careful Rust machine; then the other calls that the library has; then how translating and its code grow, in the library
+//! alone. Both have the same program and windows in the same process, in turn, the best of several rounds; windows are filled
+//! before the first round and not cleared between.
 //!
 //!     bench                the library against careful Rust (placing and translating: against the tests' independent Rust)
+//!     bench --growth       only how translating grows
 //!     bench --independent  the tests' independent implementation in the library's place
 
 use outside::board::{library, LINKED};
-use outside::calls::{Call, ALL, INDEPENDENT};
+use outside::calls::{Call, Calls, ALL, INDEPENDENT};
 use outside::loops::printed;
 use outside::machine::{self, Document};
 use outside::random::Random;
 use outside::rows::{load, op, pair, splat, splice, store};
 use outside::translate::Translating;
-use outside::{careful, timings, Answer, Head, Row, Run, DONE};
+use outside::{careful, growth, timings, Answer, Head, Row, Run, DONE};
 use std::hint::black_box;
 use std::process::ExitCode;
 use std::time::Instant;
@@ -142,28 +144,38 @@ fn compare(names: [&str; 2], machines: [Run; 2]) {
     println!("| {first:.1} | {second:.1} | {:.2} |", first / second);
 }
 
+fn compare_all(name: &str, calls: Calls, there: &[Call]) {
+    let names = [name, "Rust"];
+    if there.contains(&Call::Run) {
+        compare(names, [calls.run, careful::run]);
+    }
+    timings::print(names, [calls, careful::CALLS], there);
+}
+
 fn main() -> ExitCode {
     let arguments: Vec<String> = std::env::args().skip(1).collect();
-    let (name, calls) = match arguments.iter().map(String::as_str).collect::<Vec<_>>()[..] {
-        [] => ("library", library().map(|calls| (calls, LINKED))),
-        ["--independent"] => ("independent", Some((INDEPENDENT, &ALL[..]))),
+    let (beside, independent) = match arguments.iter().map(String::as_str).collect::<Vec<_>>()[..] {
+        [] => (true, false),
+        ["--growth"] => (false, false),
+        ["--independent"] => (true, true),
         _ => {
-            eprintln!("bench [--independent]");
+            eprintln!("bench [--growth | --independent]");
             return ExitCode::from(2);
         }
     };
-    match calls {
-        Some((calls, there)) => {
-            let names = [name, "Rust"];
-            if there.contains(&Call::Run) {
-                compare(names, [calls.run, careful::run]);
-            }
-            timings::print(names, [calls, careful::CALLS], there);
-            ExitCode::SUCCESS
-        }
-        None => {
+    let (name, calls, there) = match (independent, library()) {
+        (true, _) => ("independent", INDEPENDENT, &ALL[..]),
+        (false, Some(calls)) => ("library", calls, LINKED),
+        (false, None) => {
             eprintln!("built without the library: `rt staticlib board`, then build again");
-            ExitCode::from(2)
+            return ExitCode::from(2);
         }
+    };
+    if beside {
+        compare_all(name, calls, there);
     }
+    if there == ALL {
+        growth::print(&calls);
+    }
+    ExitCode::SUCCESS
 }
