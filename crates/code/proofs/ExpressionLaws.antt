@@ -18,7 +18,7 @@ use Rattle.rules.specs.declared.nodes.Node.the-variants as Node
 use Rattle.theory.proofs.Coded.{size-pos, length-code}
 use Rattle.code.specs.Writing.{Written, Roomy, blocksMost, Ranged, Ready}
 use Rattle.code.proofs.WritingLaws.{written-then, written-length}
-use Rattle.code.proofs.InputLaws.{tree, linked-below, load-tree, splat-tree, op-tree, left-falls, shift-tree, some-child}
+use Rattle.graph.proofs.InputLaws.{tree, linked-below, load-tree, splat-tree, op-tree, left-falls, shift-tree, some-child}
 
 -- the row after a tree's code
 pub code-rows : (t : Tree) (blocks : ℕ) {before after : List ℕ} {row next : ℕ}

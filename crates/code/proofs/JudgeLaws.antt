@@ -1,5 +1,5 @@
 -- The first refusal of an ordered list of checks, where some of them are judged together: a list of lists is one list.
-use Prim.Native.Nat.{ℕ, zero, suc, _+_, _-_, _≤_, _<_}
+use Prim.Native.Nat.{ℕ, zero, suc, _+_, _≤_, _<_, min}
 use native.Mathlib.Omega.{arith}
 use mathlib.Core.Path.{_≡_, refl, sym, ap, _∙_}
 use mathlib.Core.Bool.{Bool, true, false, _||_}
@@ -7,10 +7,9 @@ use mathlib.Core.List.{List, [], _∷_, _++_}
 use borrow.Author.Tests.{lt-ltb, le-ltb}
 use types.Run.{OneOf, miss}
 use denote.Enum.Declared.{tagOf}
-use lib.ListN.{getD}
-use Rattle.rules.specs.Limits.{vectorBytes, nodesMost, longMost}
+use lib.Dec.{ltb}
+use Rattle.rules.specs.Limits.{vectorBytes, longMost}
 use Rattle.rules.specs.Answers.{Answer, first, orElse, ofTranslate}
-use Rattle.rules.specs.Trees.{Tree, nodeAt, treeAt, treeOf}
 use Rattle.rules.specs.Code.{G}
 use Rattle.rules.specs.Tables.{Graph, graphOf}
 use Rattle.rules.specs.Checks.{headShort, nodesShort, sectionShort, roomCheck, formCheck, offsetCheck, longCheck}
@@ -18,15 +17,14 @@ use Rattle.rules.specs.Calls.{checking, offsetChecking, graphTree, translateAns
 use Rattle.rules.specs.declared.answers.TranslateAnswer.{TranslateAnswer}
 use Rattle.rules.specs.declared.answers.TranslateAnswer.the-variants as Translate
 use Rattle.rules.proofs.answers.TranslateAnswer.{the-type}
-use Rattle.theory.proofs.FormLaws.{Formed, each-check-done, some-row, passes-formed}
+use Rattle.theory.proofs.FormLaws.{Formed, each-check-done, passes-formed}
+use Rattle.theory.proofs.Lists.{split}
 use Rattle.theory.proofs.Firsts.{first-passed}
-use Rattle.graph.specs.Links.{lefts}
 use Rattle.graph.specs.Headers.{headerOf, graphIn}
-use Rattle.graph.proofs.LinkLaws.{lefts-at, formed-linked}
 use Rattle.graph.proofs.HeaderLaws.{header-graph}
-use Rattle.code.specs.Writing.{capped}
-use Rattle.code.specs.Judging.{addressChecks}
-use Rattle.code.proofs.InputLaws.{LinkedTo}
+use Rattle.sizes.specs.Sizing.{capped, sizeOf}
+use Rattle.sizes.proofs.SizeLaws.{checked-size}
+use Rattle.code.specs.Judging.{addressChecks, sizeCheck}
 
 -- the tags of answers that are not Done, and of those that are not Room, as a match says it
 abbrev pub notDone : List ℕ
@@ -80,33 +78,25 @@ last-answer Translate.Long = refl
 
 -- ---- LONG
 
-module _ (t : Tree) (rows : ℕ) (counted : rows ≡ capped (G t)) where
-  pub long-refused : longMost < rows → ofTranslate Translate.Long ≡ longCheck t
-  unfolding longCheck capped
-  long-refused h = rw (lt-ltb longMost (G t) (omega arith))
+-- the test of the size as it is counted
+pub size-refused : (head nodes : List ℕ) (size : ℕ) → size ≡ sizeOf head nodes → longMost < size → ofTranslate Translate.Long ≡ sizeCheck head nodes
+size-refused head nodes size e h = rw (← e, lt-ltb longMost size h)
 
-  pub long-passed : rows ≤ longMost → ofTranslate Translate.Done ≡ longCheck t
-  unfolding longCheck capped
-  long-passed h = rw (le-ltb longMost (G t) (omega arith))
+pub size-passed : (head nodes : List ℕ) (size : ℕ) → size ≡ sizeOf head nodes → size ≤ longMost → ofTranslate Translate.Done ≡ sizeCheck head nodes
+size-passed head nodes size e h = rw (← e, le-ltb longMost size h)
 
--- ---- a graph that passes
+capped-long : (size : ℕ) → ltb longMost (capped size) ≡ ltb longMost size
+unfolding capped
+capped-long size = split longMost size
+    (λ h. rw (lt-ltb longMost size h) (lt-ltb longMost (min size (longMost + 1)) (omega arith)))
+    (λ h. rw (le-ltb longMost size h) (le-ltb longMost (min size (longMost + 1)) (omega arith)))
 
-module _ (g : Graph) (formed : Formed vectorBytes g) where
-  pub some-node : 1 ≤ g .N
-  some-node = some-row vectorBytes (g .D) (g .N) (g .nodes) (formed .rows)
-
-  -- its nodes are linked, up to the last one
-  pub linked-root : LinkedTo (g .nodes) (lefts (nodeAt (g .nodes)) nodesMost) (g .N - 1 + 1)
-  linked-root =
-      let n : g .N - 1 + 1 ≡ g .N = omega (arith, some-node) in
-      rw n
-      (formed-linked vectorBytes g formed (λ (j : ℕ). getD (lefts (nodeAt (g .nodes)) nodesMost) j 0)
-      (λ k l. lefts-at (nodeAt (g .nodes)) nodesMost k (omega (arith, formed .most))))
-
--- the tree of a sheet is that of its last node
-pub root-tree : (nodes : List ℕ) (N : ℕ) → 1 ≤ N → treeAt (nodeAt nodes) (N - 1) ≡ treeOf nodes N
-unfolding treeAt treeOf
-root-tree nodes N h = let e : suc (N - 1) ≡ N = omega arith in rw e
+-- of a graph that passes it decides LONG
+size-decides-long : (head nodes : List ℕ) → ofTranslate Translate.Done ≡ checking vectorBytes head nodes
+    → sizeCheck head nodes ≡ longCheck (graphTree (graphOf head nodes))
+unfolding longCheck
+size-decides-long head nodes passed =
+    rw (checked-size head nodes (sym (ap (λ (a : Answer). a .number) passed)), capped-long (G (graphTree (graphOf head nodes))))
 
 -- ---- the order
 
@@ -183,10 +173,9 @@ module _ (head nodes : List ℕ) (workLen tableLen : ℕ) (P B E : List ℕ) whe
         offsets-refused a t e = sym (refused a t (longCheck (graphTree g) ∷ [])) ∙ (rw (← e) at by-offsets)
 
         pub size-decides : ofTranslate Translate.Done ≡ offsetChecking vectorBytes head nodes → (a : TranslateAnswer)
-            → ofTranslate a ≡ longCheck (treeAt (nodeAt nodes) (headerOf head .count - 1)) → ofTranslate a ≡ all
+            → ofTranslate a ≡ sizeCheck head nodes → ofTranslate a ≡ all
         size-decides kept a e =
-            let n : headerOf head .count ≡ g .N = ap (λ (x : Graph). x .N) same-graph in
-            let e′ : ofTranslate a ≡ longCheck (graphTree g) = rw (n, root-tree nodes (g .N) (some-node g formed)) at e in
             sym (last-answer a)
-            ∙ rw e′ (sym (first-passed (offsetChecking vectorBytes head nodes) (longCheck (graphTree g) ∷ []) (sym kept)))
+            ∙ rw (e, size-decides-long head nodes passed)
+            (sym (first-passed (offsetChecking vectorBytes head nodes) (longCheck (graphTree g) ∷ []) (sym kept)))
             ∙ by-offsets

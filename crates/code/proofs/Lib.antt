@@ -1,7 +1,5 @@
 pub mod WritingLaws
-pub mod InputLaws
 pub mod ExpressionLaws
-pub mod SizeLaws
 pub mod CountLaws
 pub mod SectionLaws
 pub mod ProgramLaws

@@ -1,5 +1,5 @@
 -- Instructions written into a section, and what a tree's code needs so that it can be: numbers of 32 bits, and rows.
-use Prim.Native.Nat.{ℕ, _+_, _*_, _-_, _^_, _≤_, _<_, min}
+use Prim.Native.Nat.{ℕ, _+_, _*_, _-_, _^_, _≤_, _<_}
 use mathlib.Core.Path.{_≡_}
 use mathlib.Core.List.{List, [], _∷_, _++_}
 use lib.ListN.{length, getD}
@@ -34,10 +34,6 @@ Ranged (load w a) = (w < windows) × (a ≤ addressMost)
 Ranged (splat v) = Unit
 Ranged (op o l r) = (o < operations) × Ranged l × Ranged r
 Ranged (shift f g t) = (f < vectorBytes) × (g < vectorBytes) × Ranged t
-
--- G as it is counted: one more than LONG's bound stands for everything above it
-unfoldable pub capped : ℕ → ℕ
-capped size = min size (longMost + 1)
 
 -- what the code of node k stands on: where the inputs of the nodes up to it are, fields in their ranges, rows, and addresses
 -- that a next or a previous of each node on the way moves by a vector

@@ -1,5 +1,4 @@
 // Translating's refusals, in the order of their numbers. Each check is another crate's; here they are put in order.
-use crate::size::size;
 use checks::Found;
 use graph::Header;
 use rules::answers::CheckAnswer;
@@ -7,20 +6,17 @@ use rules::answers::OffsetAnswer;
 use rules::answers::TranslateAnswer;
 ghost use mathlib.Core.Path.{_≡_};
 ghost use mathlib.Core.Bool.{_||_};
-ghost use Prim.Native.Nat.{_-_};
 ghost use Rattle.rules.specs.Limits.{vectorBytes};
 ghost use Rattle.rules.specs.Answers.{first, ofTranslate};
-ghost use Rattle.rules.specs.Trees.{nodeAt, treeAt};
-ghost use Rattle.rules.specs.Checks.{sectionShort, longCheck};
+ghost use Rattle.rules.specs.Checks.{sectionShort};
 ghost use Rattle.rules.specs.Calls.{checking, offsetChecking, translateAnswer};
-ghost use Rattle.theory.proofs.FormLaws.{Formed};
 ghost use Rattle.graph.specs.Headers.{graphIn};
-ghost use Rattle.code.specs.Judging.{addressChecks};
+ghost use Rattle.code.specs.Judging.{addressChecks, sizeCheck};
 
 // 1,024 rows of 6.
 const SECTION_ENTRIES: usize = 6144;
 
-const LONG_MOST: usize = 1020;
+const LONG_MOST: u64 = 1020;
 
 fn sections_short(prologue: &[u32], body: &[u32], epilogue: &[u32]) -> bool
     ensures { λ r. ⌜ r ≡ (sectionShort (now (prologue .entry)) || sectionShort (now (body .entry)) || sectionShort (now (epilogue .entry))) ⌝ }
@@ -84,15 +80,11 @@ fn judge_offsets(head: &[u64], nodes: &[u64]) -> TranslateAnswer
     }
 }
 
-// LONG, of the last node's tree.
-fn judge_size(header: Header, nodes: &[u64]) -> TranslateAnswer
-    requires { ⌜ Formed vectorBytes (graphIn header (now nodes)) ⌝ }
-    ensures { λ r. ⌜ ofTranslate r ≡ longCheck (treeAt (nodeAt (now (nodes .entry))) (header .count - 1)) ⌝ }
+// LONG, by the graph's size.
+fn judge_size(head: &[u64], nodes: &[u64]) -> TranslateAnswer
+    ensures { λ r. ⌜ ofTranslate r ≡ sizeCheck (now (head .entry)) (now (nodes .entry)) ⌝ }
 {
-    let left = graph::left_inputs(nodes);
-    let root = header.count - 1;
-    let rows = size(nodes, &left, root);
-    if LONG_MOST < rows {
+    if LONG_MOST < sizes::size(head, nodes) {
         return TranslateAnswer::Long;
     }
     TranslateAnswer::Done
@@ -126,5 +118,5 @@ pub(crate) fn judge(
     let TranslateAnswer::Done = offset else {
         return offset;
     };
-    judge_size(header, nodes)
+    judge_size(head, nodes)
 }

@@ -5,7 +5,6 @@ mod instructions;
 mod judge;
 mod programs;
 mod sections;
-mod size;
 
 use rules::answers::TranslateAnswer;
 use rules::program::ProgramHead;

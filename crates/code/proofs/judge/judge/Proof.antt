@@ -1,5 +1,5 @@
 -- The first answer that is not Done is the list's.
-use Rattle.code.proofs.JudgeLaws.{room-found, form-refused, formed, same-graph, addresses-refused, offsets-refused, size-decides}
+use Rattle.code.proofs.JudgeLaws.{room-found, form-refused, addresses-refused, offsets-refused, size-decides}
 use borrow.Author.Needs.{needs}
 use Rattle.code.proofs.judge.judge.Statement.{statement}
 use Rattle.code.proofs.judge.judge.Tie as tie
@@ -86,24 +86,7 @@ returns-4 c =
     h p q (o .judge-offsets .result) (c .match3 .keys2) (o .judge-offsets .ensures)
 
 judge-size-requires : tie.Need-judge-size-requires
-judge-size-requires c κs =
-    let e = c .before .before .before .before .before .before in
-    let t = e .before in
-    let f = t .before .before in
-    let i = f .before in
-    let b = i .before in
-    let s = b .before .before .before .before .before .before in
-    let a = s .args in
-    let h = rw (i .if1 .left) at (b .sections-short .ensures) in
-    let p = rw (t .enum-told .given .1) at (f .judge-form .ensures) in
-    rw (
-      e .header-of .ensures,
-      same-graph
-          (a .head .now) (a .nodes .now) (a .work-len) (a .table-len) (a .prologue .now) (a .body .now) (a .epilogue .now)
-          h p,
-    ) (formed
-    (a .head .now) (a .nodes .now) (a .work-len) (a .table-len) (a .prologue .now) (a .body .now) (a .epilogue .now)
-    h p)
+judge-size-requires c κs = search needs
 
 returns-5 : tie.Need-returns-5
 returns-5 c =
@@ -125,7 +108,7 @@ returns-5 c =
     size-decides
     (a .head .now) (a .nodes .now) (a .work-len) (a .table-len) (a .prologue .now) (a .body .now) (a .epilogue .now)
     h p q (rw (v .enum-told3 .given .1) at (o .judge-offsets .ensures)) (z .judge-size .result)
-    (rw (e .header-of .ensures) at (z .judge-size .ensures))
+    (z .judge-size .ensures)
 
 pub judge-spec : {M : Type 1} → statement M
 judge-spec =

@@ -1,8 +1,8 @@
 -- The smaller of the size and the cap, by one test.
 use native.Mathlib.Omega.{arith}
-use Rattle.code.specs.Writing.{capped}
-use Rattle.code.proofs.size.cap.Statement.{statement}
-use Rattle.code.proofs.size.cap.Tie as tie
+use Rattle.sizes.specs.Sizing.{capped}
+use Rattle.sizes.proofs.cap.Statement.{statement}
+use Rattle.sizes.proofs.cap.Tie as tie
 
 returns : tie.Need-returns
 unfolding capped

@@ -2,18 +2,18 @@
 use mathlib.Core.Path.{sym, _∙_}
 use native.Mathlib.Omega.{arith}
 use borrow.Author.Needs.{needs}
-use Rattle.code.proofs.InputLaws.{linked-below, left-falls, some-child}
-use Rattle.code.proofs.SizeLaws.{capped-most, load-size, splat-size, op-size, shift-size}
+use Rattle.graph.proofs.InputLaws.{linked-below, left-falls, some-child}
+use Rattle.sizes.proofs.SizeLaws.{capped-most, load-size, splat-size, op-size, shift-size}
 use Prim.Native.Nat.{ℕ, _<_}
 use borrow.Fn.Kinds.{In}
 use borrow.Fn.PlainCycle.{Measures, is, falls, and}
-use Rattle.code.proofs.size.size.Reads as size
-use Rattle.code.proofs.size.size.Kinds as size-kinds
-use Rattle.code.proofs.size.+size.Lts-size as size-lts
-use Rattle.code.proofs.size.cap.Reads as cap-reads
+use Rattle.sizes.proofs.node_size.Reads as size
+use Rattle.sizes.proofs.node_size.Kinds as size-kinds
+use Rattle.sizes.proofs.+node_size.Lts-node_size as size-lts
+use Rattle.sizes.proofs.cap.Reads as cap-reads
 use Rattle.tables.proofs.node_at.Reads as node-at-reads
-use Rattle.code.proofs.size.+size.{statement}
-use Rattle.code.proofs.size.+size.Tie.{close}
+use Rattle.sizes.proofs.+node_size.{statement}
+use Rattle.sizes.proofs.+node_size.Tie.{close}
 
 abbrev μ-size : Measures 2 size-kinds.ps ℕ
 μ-size κs a = a .1 .1 .0
@@ -57,7 +57,7 @@ size-sub-right-input t c =
     let a = s .args in
     omega (arith, left-falls (a .nodes .now) (a .left .now) (a .k) (s .pre .1 .1) _ (sym (m .node-at .ensures) ∙ n .enum-told3 .given .1))
 
-size-size-requires : (t : ℕ) → size-lts.Need-size-requires (size-calls t) (size-at t) size.Post
+size-size-requires : (t : ℕ) → size-lts.Need-node-size-requires (size-calls t) (size-at t) size.Post
 size-size-requires t c κs =
     let n = c .before in
     let m = n .before .before in
@@ -66,7 +66,7 @@ size-size-requires t c κs =
     let h = left-falls (a .nodes .now) (a .left .now) (a .k) (s .pre .1 .1) _ (sym (m .node-at .ensures) ∙ n .enum-told3 .given .1) in
     (omega arith, (omega arith, linked-below (a .nodes .now) (a .left .now) (a .k) _ (omega arith) (s .pre .1 .1)))
 
-size-size-requires-2 : (t : ℕ) → size-lts.Need-size-requires-2 (size-calls t) (size-at t) size.Post
+size-size-requires-2 : (t : ℕ) → size-lts.Need-node-size-requires-2 (size-calls t) (size-at t) size.Post
 size-size-requires-2 t c κs =
     let n = c .before .before in
     let m = n .before .before in
@@ -78,12 +78,12 @@ size-size-requires-2 t c κs =
 size-add-both : (t : ℕ) → size-lts.Need-add-both (size-calls t) (size-at t) size.Post
 size-add-both t c =
     let o = c .before in
-    omega (arith, capped-most _ _ (o .size .ensures), capped-most _ _ (c .size2 .ensures))
+    omega (arith, capped-most _ _ (o .node-size .ensures), capped-most _ _ (c .node-size2 .ensures))
 
 size-add-both-2 : (t : ℕ) → size-lts.Need-add-both-2 (size-calls t) (size-at t) size.Post
 size-add-both-2 t c =
     let o = c .before in
-    omega (arith, capped-most _ _ (o .size .ensures), capped-most _ _ (c .size2 .ensures))
+    omega (arith, capped-most _ _ (o .node-size .ensures), capped-most _ _ (c .node-size2 .ensures))
 
 size-cap-requires : (t : ℕ) → size-lts.Need-cap-requires (size-calls t) (size-at t) size.Post
 size-cap-requires t c κs = search needs
@@ -99,7 +99,7 @@ size-sub-child t c =
     let a = s .args in
     some-child (a .nodes .now) (a .left .now) (a .k) (s .pre .1 .1) _ (sym (m .node-at .ensures) ∙ n .enum-told4 .given .1)
 
-size-size-requires-3 : (t : ℕ) → size-lts.Need-size-requires-3 (size-calls t) (size-at t) size.Post
+size-size-requires-3 : (t : ℕ) → size-lts.Need-node-size-requires-3 (size-calls t) (size-at t) size.Post
 size-size-requires-3 t c κs =
     let n = c in
     let m = n .before .before in
@@ -109,10 +109,10 @@ size-size-requires-3 t c κs =
     (omega arith, (omega arith, linked-below (a .nodes .now) (a .left .now) (a .k) _ (omega arith) (s .pre .1 .1)))
 
 size-add-both-3 : (t : ℕ) → size-lts.Need-add-both-3 (size-calls t) (size-at t) size.Post
-size-add-both-3 t c = omega (arith, capped-most _ _ (c .size3 .ensures))
+size-add-both-3 t c = omega (arith, capped-most _ _ (c .node-size3 .ensures))
 
 size-add-both-4 : (t : ℕ) → size-lts.Need-add-both-4 (size-calls t) (size-at t) size.Post
-size-add-both-4 t c = omega (arith, capped-most _ _ (c .size3 .ensures))
+size-add-both-4 t c = omega (arith, capped-most _ _ (c .node-size3 .ensures))
 
 size-cap-requires-2 : (t : ℕ) → size-lts.Need-cap-requires-2 (size-calls t) (size-at t) size.Post
 size-cap-requires-2 t c κs = search needs
@@ -141,7 +141,7 @@ size-returns-3 t c =
     let m = n .before .before in
     let s = m .before .before in
     let a = s .args in
-    c .cap .ensures ∙ op-size (a .nodes .now) (a .left .now) (a .k) (s .pre .1 .1) _ (sym (m .node-at .ensures) ∙ n .enum-told3 .given .1) (o .size .ensures) (u .size2 .ensures)
+    c .cap .ensures ∙ op-size (a .nodes .now) (a .left .now) (a .k) (s .pre .1 .1) _ (sym (m .node-at .ensures) ∙ n .enum-told3 .given .1) (o .node-size .ensures) (u .node-size2 .ensures)
 
 size-returns-4 : (t : ℕ) → size-lts.Need-returns-4 (size-calls t) (size-at t) size.Post
 size-returns-4 t c =
@@ -150,10 +150,10 @@ size-returns-4 t c =
     let m = n .before .before in
     let s = m .before .before in
     let a = s .args in
-    c .cap2 .ensures ∙ shift-size (a .nodes .now) (a .left .now) (a .k) (s .pre .1 .1) _ (sym (m .node-at .ensures) ∙ n .enum-told4 .given .1) (u .size3 .ensures)
+    c .cap2 .ensures ∙ shift-size (a .nodes .now) (a .left .now) (a .k) (s .pre .1 .1) _ (sym (m .node-at .ensures) ∙ n .enum-told4 .given .1) (u .node-size3 .ensures)
 
-pub +size-spec : {M : Type 1} → statement M
-+size-spec = close μ-size λ t. size-lts.spec (size-calls t)
+pub +node-size-spec : {M : Type 1} → statement M
++node-size-spec = close μ-size λ t. size-lts.spec (size-calls t)
     (size-at t)
     size.Post
     (size-node-at-requires t)

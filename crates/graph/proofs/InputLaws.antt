@@ -1,15 +1,19 @@
 -- What the links say of one node: its inputs have lower numbers, and its tree is made of their trees.
-use Prim.Native.Nat.{ℕ, _+_, _-_, _≤_, _<_}
+use Prim.Native.Nat.{ℕ, suc, _+_, _-_, _≤_, _<_}
 use native.Mathlib.Omega.{arith}
 use mathlib.Core.Path.{_≡_}
 use mathlib.Core.List.{List}
 use lib.ListN.{getD}
-use Rattle.rules.specs.Trees.{Tree, load, splat, op, shift, nodeAt, treeAt}
+use Rattle.rules.specs.Trees.{Tree, load, splat, op, shift, nodeAt, treeAt, treeOf}
 use Rattle.rules.specs.declared.nodes.LoadAt.{LoadAt}
 use Rattle.rules.specs.declared.nodes.ShiftBy.{ShiftBy}
 use Rattle.rules.specs.declared.nodes.Node.{Node}
 use Rattle.rules.specs.declared.nodes.Node.the-variants as Node
-use Rattle.graph.specs.Links.{LinkedAt, Linked}
+use Rattle.rules.specs.Limits.{vectorBytes, nodesMost}
+use Rattle.rules.specs.Tables.{Graph}
+use Rattle.theory.proofs.FormLaws.{Formed, some-row}
+use Rattle.graph.specs.Links.{LinkedAt, Linked, lefts}
+use Rattle.graph.proofs.LinkLaws.{lefts-linked}
 
 module _ (nodes left : List ℕ) where
   -- the tree at a node
@@ -46,3 +50,18 @@ module _ (nodes left : List ℕ) where
 
     pub some-child : (s : ShiftBy) → nodeAt nodes k ≡ Node.Shift s → 0 < k
     some-child s is = linked-here (Node.Shift s) is .0
+
+-- ---- a graph that passes
+
+module _ (g : Graph) (formed : Formed vectorBytes g) where
+  pub some-node : 1 ≤ g .N
+  some-node = some-row vectorBytes (g .D) (g .N) (g .nodes) (formed .rows)
+
+  -- its nodes are linked, up to the last one
+  pub linked-root : LinkedTo (g .nodes) (lefts (nodeAt (g .nodes)) nodesMost) (g .N - 1 + 1)
+  linked-root = let n : g .N - 1 + 1 ≡ g .N = omega (arith, some-node) in rw n (lefts-linked vectorBytes g formed)
+
+-- the tree of a sheet is that of its last node
+pub root-tree : (nodes : List ℕ) (N : ℕ) → 1 ≤ N → treeAt (nodeAt nodes) (N - 1) ≡ treeOf nodes N
+unfolding treeAt treeOf
+root-tree nodes N h = let e : suc (N - 1) ≡ N = omega arith in rw e
