@@ -12,8 +12,8 @@ use Rattle.rules.specs.declared.nodes.Node.the-variants as Node
 use Rattle.rules.specs.Limits.{vectorBytes, nodesMost}
 use Rattle.rules.specs.Tables.{Graph}
 use Rattle.theory.proofs.FormLaws.{Formed, some-row}
-use Rattle.graph.specs.Links.{LinkedAt, Linked, lefts}
-use Rattle.graph.proofs.LinkLaws.{lefts-linked}
+use Rattle.graph.specs.Links.{leftIn, LinkedAt, Linked, lefts}
+use Rattle.graph.proofs.LinkLaws.{linked-node, linked-lower, lefts-linked}
 
 module _ (nodes left : List ℕ) where
   -- the tree at a node
@@ -22,16 +22,14 @@ module _ (nodes left : List ℕ) where
 
   -- the first k nodes are linked
   abbrev pub LinkedTo : ℕ → Type 0
-  LinkedTo k = Linked (nodeAt nodes) (λ (j : ℕ). getD left j 0) k
+  LinkedTo k = Linked (nodeAt nodes) (leftIn left) k
 
   pub linked-below : (k j : ℕ) → j ≤ k → LinkedTo (k + 1) → LinkedTo (j + 1)
-  unfolding Linked
-  linked-below k j h to i l = to i (omega arith)
+  linked-below k j h to = linked-lower (nodeAt nodes) (leftIn left) (k + 1) (j + 1) (omega arith) to
 
   module _ (k : ℕ) (to : LinkedTo (k + 1)) where
-    linked-here : (n : Node) → nodeAt nodes k ≡ n → LinkedAt (nodeAt nodes) (λ (j : ℕ). getD left j 0) k n
-    unfolding Linked
-    linked-here n e = rw e at (to k (omega arith))
+    linked-here : (n : Node) → nodeAt nodes k ≡ n → LinkedAt (nodeAt nodes) (leftIn left) k n
+    linked-here = linked-node (nodeAt nodes) (leftIn left) k to
 
     pub load-tree : (a : LoadAt) → nodeAt nodes k ≡ Node.Load a → tree k ≡ load (a .window) (a .address .0)
     load-tree a is = linked-here (Node.Load a) is

@@ -1,10 +1,21 @@
-use mathlib.Core.Path.{sym, _∙_}
-use Rattle.rules.specs.Limits.{vectorBytes}
-use Rattle.graph.proofs.HeaderLaws.{header-graph}
-use Rattle.placing.proofs.JudgeLaws.{room-refused, rule-refused, form-refused, form-formed, lines-judged}
+-- Each part that finds nothing leaves the answer to the next (checks/BareLaws).
+use Prim.Native.Nat.{ℕ}
+use mathlib.Core.Path.{_≡_, sym, _∙_}
+use mathlib.Core.Bool.{false, _||_}
+use mathlib.Core.List.{List}
+use Rattle.rules.specs.Checks.{headShort, nodesShort}
+use Rattle.theory.proofs.FormLaws.{neither}
+use Rattle.checks.proofs.BareLaws.{room-refused, rule-refused, form-refused, lines-decide}
+use Rattle.placeable.specs.Judging.{tablesShort, lineChecks}
 use borrow.Author.Needs.{needs}
-use Rattle.placing.proofs.judging.judge.Statement.{statement}
-use Rattle.placing.proofs.judging.judge.Tie as tie
+use Rattle.placeable.proofs.judge.Statement.{statement}
+use Rattle.placeable.proofs.judge.Tie as tie
+
+-- the sheet's own tables among the four
+own : (head nodes placedHead placedNodes : List ℕ) → tablesShort head nodes placedHead placedNodes ≡ false
+    → (headShort head || nodesShort nodes) ≡ false
+own head nodes placedHead placedNodes e =
+    neither (headShort head || nodesShort nodes) (headShort placedHead) (neither _ (nodesShort placedNodes) e .0) .0
 
 lacks-room-requires : tie.Need-lacks-room-requires
 lacks-room-requires c κs = search needs
@@ -12,14 +23,13 @@ lacks-room-requires c κs = search needs
 returns : tie.Need-returns
 returns c =
     let a = c .before .before .before .before .before .before .args in
-    let short = sym (c .before .lacks-room .ensures) ∙ c .if1 .taken in
-    room-refused (a .rule) (a .head .now) (a .nodes .now) (a .placed-head .now) (a .placed-nodes .now) short
+    room-refused (a .rule) (a .head .now) (a .nodes .now) _ lineChecks (sym (c .before .lacks-room .ensures) ∙ c .if1 .taken)
 
 returns-2 : tie.Need-returns-2
 returns-2 c =
     let a = c .before .before .before .before .before .before .before .args in
-    let roomy = sym (c .before .before .lacks-room .ensures) ∙ c .before .if1 .left in
-    rule-refused (a .rule) (a .head .now) (a .nodes .now) (a .placed-head .now) (a .placed-nodes .now) roomy (c .if2 .taken)
+    let room = sym (c .before .before .lacks-room .ensures) ∙ c .before .if1 .left in
+    rule-refused (a .rule) (a .head .now) (a .nodes .now) _ lineChecks room (c .if2 .taken)
 
 check-requires : tie.Need-check-requires
 check-requires c κs = search needs
@@ -49,8 +59,9 @@ returns-3 c =
     let roomy = known .before in
     let a = roomy .before .before .before .before .before .before .args in
     let room = sym (roomy .before .lacks-room .ensures) ∙ roomy .if1 .left in
+    let tables = own (a .head .now) (a .nodes .now) (a .placed-head .now) (a .placed-nodes .now) room in
     let found = rw (c .enum-told .given .1) at (form .check .ensures) in
-    form-refused (a .rule) (a .head .now) (a .nodes .now) (a .placed-head .now) (a .placed-nodes .now) room (known .if2 .left) _ _ found
+    form-refused (a .rule) (a .head .now) (a .nodes .now) _ lineChecks room (known .if2 .left) tables _ _ found
 
 returns-4 : tie.Need-returns-4
 returns-4 c =
@@ -59,8 +70,9 @@ returns-4 c =
     let roomy = known .before in
     let a = roomy .before .before .before .before .before .before .args in
     let room = sym (roomy .before .lacks-room .ensures) ∙ roomy .if1 .left in
+    let tables = own (a .head .now) (a .nodes .now) (a .placed-head .now) (a .placed-nodes .now) room in
     let found = rw (c .before .form .given .1) at (form .check .ensures) in
-    form-refused (a .rule) (a .head .now) (a .nodes .now) (a .placed-head .now) (a .placed-nodes .now) room (known .if2 .left) _ _ found
+    form-refused (a .rule) (a .head .now) (a .nodes .now) _ lineChecks room (known .if2 .left) tables _ _ found
 
 returns-5 : tie.Need-returns-5
 returns-5 c =
@@ -69,8 +81,9 @@ returns-5 c =
     let roomy = known .before in
     let a = roomy .before .before .before .before .before .before .args in
     let room = sym (roomy .before .lacks-room .ensures) ∙ roomy .if1 .left in
+    let tables = own (a .head .now) (a .nodes .now) (a .placed-head .now) (a .placed-nodes .now) room in
     let found = rw (c .before .form2 .given .1) at (form .check .ensures) in
-    form-refused (a .rule) (a .head .now) (a .nodes .now) (a .placed-head .now) (a .placed-nodes .now) room (known .if2 .left) _ _ found
+    form-refused (a .rule) (a .head .now) (a .nodes .now) _ lineChecks room (known .if2 .left) tables _ _ found
 
 returns-6 : tie.Need-returns-6
 returns-6 c =
@@ -79,11 +92,10 @@ returns-6 c =
     let roomy = known .before in
     let a = roomy .before .before .before .before .before .before .args in
     let room = sym (roomy .before .lacks-room .ensures) ∙ roomy .if1 .left in
+    let tables = own (a .head .now) (a .nodes .now) (a .placed-head .now) (a .placed-nodes .now) room in
     let passed = rw (c .before .before .enum-told2 .given .1) at (form .check .ensures) in
-    let formed = form-formed (a .rule) (a .head .now) (a .nodes .now) (a .placed-head .now) (a .placed-nodes .now) room (known .if2 .left) passed in
-    let same = header-graph vectorBytes (a .head .now) (a .nodes .now) formed in
-    lines-judged (a .rule) (a .head .now) (a .nodes .now) (a .placed-head .now) (a .placed-nodes .now) room (known .if2 .left) passed _
-    (rw (c .before .header-of .ensures, same) at (c .judge-lines .ensures))
+    lines-decide (a .rule) (a .head .now) (a .nodes .now) _ lineChecks room (known .if2 .left) tables passed _
+    (rw (c .before .header-of .ensures) at (c .judge-lines .ensures))
 
 pub judge-spec : {M : Type 1} → statement M
 judge-spec =

@@ -1,4 +1,4 @@
-// What placing refuses, in its order: ROOM, a rule above 3, RANGE and SHAPE as if read, BARE, ALIGN.
+// Whether a sheet can be placed: what placing refuses, in its order. ROOM, a rule above 3, RANGE and SHAPE as if read, BARE, ALIGN.
 use checks::Found;
 use graph::Header;
 use rules::answers::CheckAnswer;
@@ -6,11 +6,11 @@ use rules::answers::PlaceAnswer;
 ghost use mathlib.Core.Path.{_≡_};
 ghost use mathlib.Core.Bool.{_||_};
 ghost use Rattle.rules.specs.Limits.{vectorBytes};
-ghost use Rattle.rules.specs.Answers.{ofPlace};
+ghost use Rattle.rules.specs.Answers.{first, ofPlace};
 ghost use Rattle.rules.specs.Checks.{headShort, nodesShort};
 ghost use Rattle.rules.specs.Calls.{placeAnswer};
 ghost use Rattle.graph.specs.Headers.{graphIn};
-ghost use Rattle.placing.specs.Handing.{tablesShort, linesAnswer};
+ghost use Rattle.placeable.specs.Judging.{tablesShort, lineChecks};
 
 const HEAD_ENTRIES: usize = 10;
 
@@ -41,7 +41,7 @@ fn lacks_room(head: &[u64], nodes: &[u64], placed_head: &[u64], placed_nodes: &[
 
 // The lines of a sheet that passes as if read: BARE, then ALIGN.
 fn judge_lines(head: Header, nodes: &[u64]) -> PlaceAnswer
-    ensures { λ r. ⌜ ofPlace r ≡ linesAnswer (graphIn head (now (nodes .entry))) ⌝ }
+    ensures { λ r. ⌜ ofPlace r ≡ first (lineChecks (graphIn head (now (nodes .entry)))) ⌝ }
 {
     let bare = checks::bare(head, nodes);
     match bare {
@@ -56,7 +56,8 @@ fn judge_lines(head: Header, nodes: &[u64]) -> PlaceAnswer
     }
 }
 
-pub(crate) fn judge(
+// The first refusal of a rule and a sheet, and of the tables lent for the placed graph.
+pub fn judge(
     rule: u64,
     head: &[u64],
     nodes: &[u64],

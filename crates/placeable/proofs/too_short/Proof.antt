@@ -1,6 +1,6 @@
 use borrow.Author.Tests.{lt-ltb, le-ltb}
-use Rattle.placing.proofs.judging.too_short.Statement.{statement}
-use Rattle.placing.proofs.judging.too_short.Tie as tie
+use Rattle.placeable.proofs.too_short.Statement.{statement}
+use Rattle.placeable.proofs.too_short.Tie as tie
 
 returns : tie.Need-returns
 returns c = rw (lt-ltb _ 10 (c .if1 .taken))

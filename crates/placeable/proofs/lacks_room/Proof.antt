@@ -1,7 +1,7 @@
 use mathlib.Core.Path.{sym, _∙_}
 use borrow.Author.Needs.{needs}
-use Rattle.placing.proofs.judging.lacks_room.Statement.{statement}
-use Rattle.placing.proofs.judging.lacks_room.Tie as tie
+use Rattle.placeable.proofs.lacks_room.Statement.{statement}
+use Rattle.placeable.proofs.lacks_room.Tie as tie
 
 too-short-requires : tie.Need-too-short-requires
 too-short-requires c κs = search needs
