@@ -1,6 +1,6 @@
 -- The loop: after i elements work is as the definition has it, and its length is kept, so that the next element can be evaluated
 -- and stored.
-use Prim.Native.Nat.{ℕ, zero, suc, _+_, _-_, _*_, _≤_, _<_}
+use Prim.Native.Nat.{ℕ, suc, _+_, _-_, _*_, _≤_, _<_}
 use mathlib.Core.Path.{_≡_, refl, _∙_}
 use mathlib.Core.List.{List}
 use native.Mathlib.Nat.{suc-mul, mul-le-mul-right}
@@ -9,7 +9,7 @@ use native.Mathlib.Omega.{arith}
 use lib.ListN.{length}
 use lib.Seq.{paste}
 use Rattle.rules.specs.Elements.{toBytes}
-use Rattle.rules.specs.Trees.{Tree, nodeAt, treeAt, treeOf}
+use Rattle.rules.specs.Trees.{Tree, nodeAt, treeAt}
 use Rattle.rules.specs.PlainLoop.{plain}
 use Rattle.rules.specs.Tables.{Graph}
 use Rattle.rules.specs.Calls.{graphPlain}

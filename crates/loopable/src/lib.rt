@@ -8,7 +8,7 @@ ghost use Rattle.rules.specs.Limits.{vectorBytes};
 ghost use Rattle.rules.specs.Answers.{ofPlain};
 ghost use Rattle.rules.specs.Calls.{plainAnswer};
 ghost use Rattle.graph.specs.Headers.{graphIn};
-ghost use Rattle.plain.specs.Looping.{formedAnswer};
+ghost use Rattle.loopable.specs.Judging.{formedAnswer};
 
 // Of a graph whose form passed: WINDOW, ALIGN, BOUNDS.
 fn judge_windows(header: Header, nodes: &[u64], work_len: u64, table_len: u64) -> PlainAnswer
@@ -26,7 +26,8 @@ fn judge_windows(header: Header, nodes: &[u64], work_len: u64, table_len: u64) -
     PlainAnswer::Done
 }
 
-pub(crate) fn judge(head: &[u64], nodes: &[u64], work_len: u64, table_len: u64) -> PlainAnswer
+// The first refusal of a graph and of the windows that it runs on.
+pub fn judge(head: &[u64], nodes: &[u64], work_len: u64, table_len: u64) -> PlainAnswer
     ensures { λ r. ⌜ ofPlain r ≡ plainAnswer vectorBytes (now (head .entry)) (now (nodes .entry)) «work_len» «table_len» ⌝ }
 {
     let form = graph::check(head, nodes);

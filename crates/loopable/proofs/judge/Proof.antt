@@ -1,10 +1,10 @@
 -- `judge`: a form that is refused is the answer; one that passes has the header of its graph.
 use mathlib.Core.Path.{sym}
 use Rattle.theory.proofs.Firsts.{first-refused}
-use Rattle.plain.proofs.JudgeLaws.{form-passed}
+use Rattle.loopable.proofs.JudgeLaws.{form-passed}
 use borrow.Author.Needs.{needs}
-use Rattle.plain.proofs.judge.judge.Statement.{statement}
-use Rattle.plain.proofs.judge.judge.Tie as tie
+use Rattle.loopable.proofs.judge.Statement.{statement}
+use Rattle.loopable.proofs.judge.Tie as tie
 
 check-requires : tie.Need-check-requires
 check-requires c κs = search needs

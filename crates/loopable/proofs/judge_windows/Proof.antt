@@ -1,10 +1,10 @@
 -- `judge_windows`: each check that found nothing leaves the answer to the next.
 use mathlib.Core.Path.{sym, _∙_}
 use Rattle.theory.proofs.Firsts.{first-passed, first-refused}
-use Rattle.plain.proofs.JudgeLaws.{all-passed}
+use Rattle.loopable.proofs.JudgeLaws.{all-passed}
 use borrow.Author.Needs.{needs}
-use Rattle.plain.proofs.judge.judge_windows.Statement.{statement}
-use Rattle.plain.proofs.judge.judge_windows.Tie as tie
+use Rattle.loopable.proofs.judge_windows.Statement.{statement}
+use Rattle.loopable.proofs.judge_windows.Tie as tie
 
 windows-requires : tie.Need-windows-requires
 windows-requires c κs = search needs
