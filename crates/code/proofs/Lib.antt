@@ -3,6 +3,5 @@ pub mod ExpressionLaws
 pub mod CountLaws
 pub mod SectionLaws
 pub mod ProgramLaws
-pub mod JudgeLaws
 pub mod TranslateLaws
 pub mod Outcomes

@@ -36,9 +36,9 @@ use Rattle.graph.specs.declared.headers.Header.{Header}
 use Rattle.graph.specs.Headers.{headerOf, graphIn}
 use Rattle.graph.proofs.InputLaws.{some-node, linked-root, root-tree}
 use Rattle.graph.proofs.HeaderLaws.{header-graph}
+use Rattle.translatable.proofs.JudgeLaws.{notDone, notRoom, Tagged}
 use Rattle.code.specs.Writing.{written, Written, Roomy, Ranged, Root}
 use Rattle.code.specs.Emitting.{headed, Emitted, programGiven}
-use Rattle.code.proofs.JudgeLaws.{notDone, notRoom, Tagged}
 
 -- ---- the tables
 

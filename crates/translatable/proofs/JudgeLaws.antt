@@ -24,7 +24,7 @@ use Rattle.graph.specs.Headers.{headerOf, graphIn}
 use Rattle.graph.proofs.HeaderLaws.{header-graph}
 use Rattle.sizes.specs.Sizing.{capped, sizeOf}
 use Rattle.sizes.proofs.SizeLaws.{checked-size}
-use Rattle.code.specs.Judging.{addressChecks, sizeCheck}
+use Rattle.translatable.specs.Judging.{addressChecks, sizeCheck}
 
 -- the tags of answers that are not Done, and of those that are not Room, as a match says it
 abbrev pub notDone : List ℕ

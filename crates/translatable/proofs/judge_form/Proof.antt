@@ -1,7 +1,7 @@
 -- Case by case the answer of the check.
 use borrow.Author.Needs.{needs}
-use Rattle.code.proofs.judge.judge_form.Statement.{statement}
-use Rattle.code.proofs.judge.judge_form.Tie as tie
+use Rattle.translatable.proofs.judge_form.Statement.{statement}
+use Rattle.translatable.proofs.judge_form.Tie as tie
 
 check-requires : tie.Need-check-requires
 check-requires c κs = search needs

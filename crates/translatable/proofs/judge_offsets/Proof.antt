@@ -1,7 +1,7 @@
 -- Case by case the answer of the check.
 use borrow.Author.Needs.{needs}
-use Rattle.code.proofs.judge.judge_offsets.Statement.{statement}
-use Rattle.code.proofs.judge.judge_offsets.Tie as tie
+use Rattle.translatable.proofs.judge_offsets.Statement.{statement}
+use Rattle.translatable.proofs.judge_offsets.Tie as tie
 
 offset-check-requires : tie.Need-offset-check-requires
 offset-check-requires c κs = search needs

@@ -1,8 +1,8 @@
 -- Each check that finds nothing leaves the answer to the next.
 use Rattle.rules.specs.Answers.{first}
 use borrow.Author.Needs.{needs}
-use Rattle.code.proofs.judge.judge_addresses.Statement.{statement}
-use Rattle.code.proofs.judge.judge_addresses.Tie as tie
+use Rattle.translatable.proofs.judge_addresses.Statement.{statement}
+use Rattle.translatable.proofs.judge_addresses.Tie as tie
 
 windows-requires : tie.Need-windows-requires
 windows-requires c κs = search needs

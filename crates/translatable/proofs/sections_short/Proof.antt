@@ -2,8 +2,8 @@
 use Prim.Native.Nat.{_*_}
 use borrow.Author.Tests.{lt-ltb, le-ltb}
 use Rattle.rules.specs.Limits.{sectionMost, instructionEntries}
-use Rattle.code.proofs.judge.sections_short.Statement.{statement}
-use Rattle.code.proofs.judge.sections_short.Tie as tie
+use Rattle.translatable.proofs.sections_short.Statement.{statement}
+use Rattle.translatable.proofs.sections_short.Tie as tie
 
 returns : tie.Need-returns
 returns c = rw (lt-ltb _ (instructionEntries * sectionMost) (c .if1 .taken))

@@ -1,8 +1,8 @@
 -- One test of the size.
-use Rattle.code.proofs.JudgeLaws.{size-refused, size-passed}
+use Rattle.translatable.proofs.JudgeLaws.{size-refused, size-passed}
 use borrow.Author.Needs.{needs}
-use Rattle.code.proofs.judge.judge_size.Statement.{statement}
-use Rattle.code.proofs.judge.judge_size.Tie as tie
+use Rattle.translatable.proofs.judge_size.Statement.{statement}
+use Rattle.translatable.proofs.judge_size.Tie as tie
 
 size-requires : tie.Need-size-requires
 size-requires c κs = search needs

@@ -1,8 +1,8 @@
 -- The first answer that is not Done is the list's.
-use Rattle.code.proofs.JudgeLaws.{room-found, form-refused, addresses-refused, offsets-refused, size-decides}
+use Rattle.translatable.proofs.JudgeLaws.{room-found, form-refused, addresses-refused, offsets-refused, size-decides}
 use borrow.Author.Needs.{needs}
-use Rattle.code.proofs.judge.judge.Statement.{statement}
-use Rattle.code.proofs.judge.judge.Tie as tie
+use Rattle.translatable.proofs.judge.Statement.{statement}
+use Rattle.translatable.proofs.judge.Tie as tie
 
 sections-short-requires : tie.Need-sections-short-requires
 sections-short-requires c κs = search needs

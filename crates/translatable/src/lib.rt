@@ -1,4 +1,5 @@
-// Translating's refusals, in the order of their numbers. Each check is another crate's; here they are put in order.
+// Whether a graph can be translated: translating's refusals, in the order of their numbers. Each check is another crate's; here they
+// are put in order.
 use checks::Found;
 use graph::Header;
 use rules::answers::CheckAnswer;
@@ -11,7 +12,7 @@ ghost use Rattle.rules.specs.Answers.{first, ofTranslate};
 ghost use Rattle.rules.specs.Checks.{sectionShort};
 ghost use Rattle.rules.specs.Calls.{checking, offsetChecking, translateAnswer};
 ghost use Rattle.graph.specs.Headers.{graphIn};
-ghost use Rattle.code.specs.Judging.{addressChecks, sizeCheck};
+ghost use Rattle.translatable.specs.Judging.{addressChecks, sizeCheck};
 
 // 1,024 rows of 6.
 const SECTION_ENTRIES: usize = 6144;
@@ -91,7 +92,7 @@ fn judge_size(head: &[u64], nodes: &[u64]) -> TranslateAnswer
 }
 
 // The first refusal, ROOM before all others.
-pub(crate) fn judge(
+pub fn judge(
     head: &[u64],
     nodes: &[u64],
     work_len: u64,
