@@ -1,7 +1,7 @@
 -- Each length in turn.
 use borrow.Author.Tests.{lt-ltb, le-ltb}
-use Rattle.planner.proofs.judging.tables_short.Statement.{statement}
-use Rattle.planner.proofs.judging.tables_short.Tie as tie
+use Rattle.plannable.proofs.tables_short.Statement.{statement}
+use Rattle.plannable.proofs.tables_short.Tie as tie
 
 returns : tie.Need-returns
 returns c = rw (lt-ltb _ 10 (c .if1 .taken))

@@ -1,8 +1,8 @@
 -- Each check that finds nothing leaves the answer to the next.
 use Rattle.rules.specs.Answers.{first}
 use borrow.Author.Needs.{needs}
-use Rattle.planner.proofs.judging.judge_lines.Statement.{statement}
-use Rattle.planner.proofs.judging.judge_lines.Tie as tie
+use Rattle.plannable.proofs.judge_lines.Statement.{statement}
+use Rattle.plannable.proofs.judge_lines.Tie as tie
 
 bare-requires : tie.Need-bare-requires
 bare-requires c κs = search needs

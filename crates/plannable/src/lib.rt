@@ -1,4 +1,4 @@
-// The one-step call's refusals on the bare sheet, in their order. Each check is another crate's; here they are put in order. After
+// Whether a bare sheet can be planned: the one-step call's refusals, in their order. Each check is another crate's; here they are put in order. After
 // them neither OFFSET nor LONG is ever given, so nothing is judged on the placed graph.
 use checks::Found;
 use graph::Header;
@@ -9,7 +9,7 @@ ghost use Rattle.rules.specs.Limits.{vectorBytes};
 ghost use Rattle.rules.specs.Answers.{first, ofPlan};
 ghost use Rattle.rules.specs.Calls.{bareChecks};
 ghost use Rattle.graph.specs.Headers.{graphIn};
-ghost use Rattle.planner.specs.Planning.{tablesShort, lineChecks};
+ghost use Rattle.plannable.specs.Judging.{tablesShort, lineChecks};
 
 const HEAD_ENTRIES: usize = 10;
 
@@ -47,7 +47,7 @@ fn tables_short(
 
 // BARE, WINDOW, ALIGN, BOUNDS and CARRY.
 fn judge_lines(header: Header, nodes: &[u64], work_len: u64, table_len: u64) -> PlanAnswer
-    ensures { λ r. ⌜ ofPlan r ≡ first (lineChecks (graphIn header (now (nodes .entry))) «work_len» «table_len») ⌝ }
+    ensures { λ r. ⌜ ofPlan r ≡ first (lineChecks «work_len» «table_len» (graphIn header (now (nodes .entry)))) ⌝ }
 {
     let bare = checks::bare(header, nodes);
     if let Found::At(place) = bare {
@@ -73,7 +73,7 @@ fn judge_lines(header: Header, nodes: &[u64], work_len: u64, table_len: u64) -> 
 }
 
 // The first refusal: ROOM, a rule above 3, RANGE and SHAPE, then the lines.
-pub(crate) fn judge(
+pub fn judge(
     rule: u64,
     head: &[u64],
     nodes: &[u64],

@@ -1,13 +1,13 @@
--- Each part that finds nothing leaves the answer to the next (JudgeLaws).
-use mathlib.Core.Path.{sym, ap, _∙_}
-use Rattle.rules.specs.Answers.{first}
-use Rattle.graph.specs.Headers.{graphIn}
-use Rattle.graph.specs.declared.headers.Header.{Header}
-use Rattle.planner.specs.Planning.{lineChecks}
-use Rattle.planner.proofs.JudgeLaws.{room-found, rule-refused, form-refuses, lines-decide}
+-- Each part that finds nothing leaves the answer to the next (checks/BareLaws).
+use mathlib.Core.Path.{sym, _∙_}
+use mathlib.Core.Bool.{_||_}
+use Rattle.rules.specs.Checks.{headShort, nodesShort}
+use Rattle.theory.proofs.Demands.{tables-roomy}
+use Rattle.plannable.specs.Judging.{lineChecks}
+use Rattle.checks.proofs.BareLaws.{room-refused, rule-refused, form-refused, lines-decide}
 use borrow.Author.Needs.{needs}
-use Rattle.planner.proofs.judging.judge.Statement.{statement}
-use Rattle.planner.proofs.judging.judge.Tie as tie
+use Rattle.plannable.proofs.judge.Statement.{statement}
+use Rattle.plannable.proofs.judge.Tie as tie
 
 tables-short-requires : tie.Need-tables-short-requires
 tables-short-requires c κs = search needs
@@ -16,14 +16,14 @@ returns : tie.Need-returns
 returns c =
     let s = c .before in
     let a = s .before .before .before .before .before .before .args in
-    room-found (a .rule) (a .head .now) (a .nodes .now) (a .work-len) (a .table-len) (a .prologue .now) (a .body .now) (a .epilogue .now) (sym (s .tables-short .ensures) ∙ c .if1 .taken)
+    room-refused (a .rule) (a .head .now) (a .nodes .now) _ (lineChecks (a .work-len) (a .table-len)) (sym (s .tables-short .ensures) ∙ c .if1 .taken)
 
 returns-2 : tie.Need-returns-2
 returns-2 c =
     let i = c .before in
     let s = i .before in
     let a = s .before .before .before .before .before .before .args in
-    rule-refused (a .rule) (a .head .now) (a .nodes .now) (a .work-len) (a .table-len) (a .prologue .now) (a .body .now) (a .epilogue .now) (sym (s .tables-short .ensures) ∙ i .if1 .left) (c .if2 .taken)
+    rule-refused (a .rule) (a .head .now) (a .nodes .now) _ (lineChecks (a .work-len) (a .table-len)) (sym (s .tables-short .ensures) ∙ i .if1 .left) (c .if2 .taken)
 
 check-requires : tie.Need-check-requires
 check-requires c κs = search needs
@@ -54,10 +54,10 @@ returns-3 c =
     let s = i .before in
     let a = s .before .before .before .before .before .before .args in
     let roomy = sym (s .tables-short .ensures) ∙ i .if1 .left in
-    let e = c .before .before in
-    c .judge-lines .ensures
-    ∙ ap (λ (h : Header). first (lineChecks (graphIn h (a .nodes .now)) (a .work-len) (a .table-len))) (c .before .header-of .ensures)
-    ∙ lines-decide (a .rule) (a .head .now) (a .nodes .now) (a .work-len) (a .table-len) (a .prologue .now) (a .body .now) (a .epilogue .now) roomy (r .if2 .left) (sym (rw (e .enum-told .given .1) at (k .check .ensures)))
+    let tables = tables-roomy (headShort (a .head .now) || nodesShort (a .nodes .now)) _ _ _ roomy in
+    let passed = rw (c .before .before .enum-told .given .1) at (k .check .ensures) in
+    lines-decide (a .rule) (a .head .now) (a .nodes .now) _ (lineChecks (a .work-len) (a .table-len)) roomy (r .if2 .left) tables passed _
+    (rw (c .before .header-of .ensures) at (c .judge-lines .ensures))
 
 returns-4 : tie.Need-returns-4
 returns-4 c =
@@ -67,7 +67,9 @@ returns-4 c =
     let s = i .before in
     let a = s .before .before .before .before .before .before .args in
     let roomy = sym (s .tables-short .ensures) ∙ i .if1 .left in
-    form-refuses (a .rule) (a .head .now) (a .nodes .now) (a .work-len) (a .table-len) (a .prologue .now) (a .body .now) (a .epilogue .now) roomy (r .if2 .left) 0 0 (sym (rw (c .enum-told2 .given .1) at (k .check .ensures)))
+    let tables = tables-roomy (headShort (a .head .now) || nodesShort (a .nodes .now)) _ _ _ roomy in
+    form-refused (a .rule) (a .head .now) (a .nodes .now) _ (lineChecks (a .work-len) (a .table-len)) roomy (r .if2 .left) tables
+    _ _ (rw (c .enum-told2 .given .1) at (k .check .ensures))
 
 returns-5 : tie.Need-returns-5
 returns-5 c =
@@ -77,8 +79,10 @@ returns-5 c =
     let s = i .before in
     let a = s .before .before .before .before .before .before .args in
     let roomy = sym (s .tables-short .ensures) ∙ i .if1 .left in
+    let tables = tables-roomy (headShort (a .head .now) || nodesShort (a .nodes .now)) _ _ _ roomy in
     let f = c .before .form in
-    form-refuses (a .rule) (a .head .now) (a .nodes .now) (a .work-len) (a .table-len) (a .prologue .now) (a .body .now) (a .epilogue .now) roomy (r .if2 .left) 2 (f .given .0 .0) (sym (rw (f .given .1) at (k .check .ensures)))
+    form-refused (a .rule) (a .head .now) (a .nodes .now) _ (lineChecks (a .work-len) (a .table-len)) roomy (r .if2 .left) tables
+    _ _ (rw (f .given .1) at (k .check .ensures))
 
 returns-6 : tie.Need-returns-6
 returns-6 c =
@@ -88,8 +92,10 @@ returns-6 c =
     let s = i .before in
     let a = s .before .before .before .before .before .before .args in
     let roomy = sym (s .tables-short .ensures) ∙ i .if1 .left in
+    let tables = tables-roomy (headShort (a .head .now) || nodesShort (a .nodes .now)) _ _ _ roomy in
     let f = c .before .form2 in
-    form-refuses (a .rule) (a .head .now) (a .nodes .now) (a .work-len) (a .table-len) (a .prologue .now) (a .body .now) (a .epilogue .now) roomy (r .if2 .left) 3 (f .given .0 .0) (sym (rw (f .given .1) at (k .check .ensures)))
+    form-refused (a .rule) (a .head .now) (a .nodes .now) _ (lineChecks (a .work-len) (a .table-len)) roomy (r .if2 .left) tables
+    _ _ (rw (f .given .1) at (k .check .ensures))
 
 pub judge-spec : {M : Type 1} → statement M
 judge-spec =
