@@ -37,7 +37,8 @@ use Rattle.graph.specs.Headers.{headerOf, graphIn}
 use Rattle.graph.proofs.InputLaws.{some-node, linked-root, root-tree}
 use Rattle.graph.proofs.HeaderLaws.{header-graph}
 use Rattle.translatable.proofs.JudgeLaws.{notDone, notRoom, Tagged}
-use Rattle.code.specs.Writing.{written, Written, Roomy, Ranged, Root}
+use Rattle.emitting.specs.Putting.{written}
+use Rattle.code.specs.Writing.{Written, Roomy, Ranged, Root}
 use Rattle.code.specs.Emitting.{headed, Emitted, programGiven}
 
 -- ---- the tables

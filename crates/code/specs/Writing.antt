@@ -3,17 +3,12 @@ use Prim.Native.Nat.{ℕ, _+_, _*_, _-_, _^_, _≤_, _<_}
 use mathlib.Core.Path.{_≡_}
 use mathlib.Core.List.{List, [], _∷_, _++_}
 use lib.ListN.{length, getD}
-use lib.Seq.{sets}
 use Rattle.rules.specs.Limits.{vectorBytes, windows, addressMost, operations, nodesMost, sectionMost, longMost, instructionEntries}
 use Rattle.rules.specs.Trees.{Tree, load, splat, op, shift, nodeAt, treeAt}
 use Rattle.rules.specs.Code.{G, new, oldBlock}
-use Rattle.rules.specs.Tables.{entries}
 use Rattle.rules.specs.declared.program.Instruction.{Instruction}
 use Rattle.graph.specs.Links.{Linked}
-
--- a section with these instructions from a row on, and all else as it was
-unfoldable pub written : List ℕ → ℕ → List Instruction → List ℕ
-written section row is = sets section (instructionEntries * row) (entries is)
+use Rattle.emitting.specs.Putting.{written}
 
 -- a section before and after these instructions were written from a row on, and the row after them
 pub record Written (before after : List ℕ) (row next : ℕ) (is : List Instruction) : Type 0 where

@@ -1,7 +1,6 @@
 // Translating (document 01, "Vector code"): a graph handed over as tables becomes a program in three lent sections, or is refused.
 mod counts;
 mod expressions;
-mod instructions;
 mod programs;
 mod sections;
 

@@ -1,11 +1,8 @@
 -- The address is the store's own, held with 2^31 added.
 use Rattle.rules.specs.Vectors.{blockZero}
 use borrow.Author.Needs.{needs}
-use Rattle.code.proofs.instructions.put_store.Statement.{statement}
-use Rattle.code.proofs.instructions.put_store.Tie as tie
-
-cast-register : tie.Need-cast-register
-cast-register c = search needs
+use Rattle.emitting.proofs.put_store.Statement.{statement}
+use Rattle.emitting.proofs.put_store.Tie as tie
 
 moved-requires : tie.Need-moved-requires
 moved-requires c κs = search needs
@@ -21,4 +18,4 @@ unfolding blockZero
 returns c = rw (c .before .before .before .before .moved .ensures) at (c .before .before .put .ensures)
 
 pub put-store-spec : {M : Type 1} → statement M
-put-store-spec = tie.close (tie.spec cast-register moved-requires put-requires same-length returns)
+put-store-spec = tie.close (tie.spec moved-requires put-requires same-length returns)
