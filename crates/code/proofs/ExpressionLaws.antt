@@ -1,10 +1,10 @@
 -- Each node's code is made of its inputs' code: from what node k's code stands on, what each input's stands on, and from the
 -- inputs' code as it was written, node k's.
-use Prim.Native.Nat.{ℕ, _+_, _*_, _-_, _/_, _%_, _≤_, _<_}
+use Prim.Native.Nat.{ℕ, _+_, _*_, _-_, _/_, _≤_, _<_}
 use native.Mathlib.Omega.{arith}
 use mathlib.Core.Path.{_≡_, ap, _∙_}
 use mathlib.Core.Bool.{Bool, true, false, cond}
-use mathlib.Core.List.{List, [], _∷_}
+use mathlib.Core.List.{List}
 use lib.Dec.{ltb}
 use lib.ListN.{getD}
 use Rattle.rules.specs.Limits.{vectorBytes, windows, addressMost, operations, sectionMost, lowValues}
@@ -16,9 +16,10 @@ use Rattle.rules.specs.declared.nodes.ShiftBy.{ShiftBy}
 use Rattle.rules.specs.declared.nodes.Node.{Node}
 use Rattle.rules.specs.declared.nodes.Node.the-variants as Node
 use Rattle.theory.proofs.Coded.{size-pos, length-code}
+use Rattle.emitting.specs.Putting.{cut, handed, putting}
 use Rattle.code.specs.Writing.{Written, Roomy, blocksMost, Ranged, Ready}
-use Rattle.code.proofs.WritingLaws.{written-then, written-length}
-use Rattle.code.proofs.InputLaws.{tree, linked-below, load-tree, splat-tree, op-tree, left-falls, shift-tree, some-child}
+use Rattle.code.proofs.WritingLaws.{written-then, written-length, cut-small, put-written}
+use Rattle.graph.proofs.InputLaws.{tree, linked-below, load-tree, splat-tree, op-tree, left-falls, shift-tree, some-child}
 
 -- the row after a tree's code
 pub code-rows : (t : Tree) (blocks : ℕ) {before after : List ℕ} {row next : ℕ}
@@ -44,16 +45,20 @@ module _ {nodes left : List ℕ} {k blocks row : ℕ} {section : List ℕ} (r : 
     load-ranged = rw (load-tree nodes left k (r .linked) a is) at (r .ranged)
 
     pub load-coded : {after : List ℕ} {next : ℕ}
-        → Written section after row next (Load row (a .window) (a .address .0 + vectorBytes * blocks) ∷ [])
+        → handed next after ≡ putting section row (Load row (cut (a .window)) (cut (a .address .0 + vectorBytes * blocks)))
         → Written section after row next (code vectorBytes (tree nodes left k) blocks row)
     unfolding code
-    load-coded w = rw (load-tree nodes left k (r .linked) a is) w
+    load-coded w =
+        let q = load-ranged in
+        let window = cut-small (a .window) (omega (arith, q .0)) in
+        let address = cut-small (a .address .0 + vectorBytes * blocks) (omega (arith, q .1, r .below)) in
+        rw (load-tree nodes left k (r .linked) a is) (put-written row-free (r .room) (rw (window, address) at w))
 
   pub splat-coded : (v : ℕ) → nodeAt nodes k ≡ Node.Splat v → {after : List ℕ} {next : ℕ}
-      → Written section after row next (Splat row (v % lowValues) (v / lowValues) ∷ [])
+      → handed next after ≡ putting section row (Splat row (cut v) (v / lowValues))
       → Written section after row next (code vectorBytes (tree nodes left k) blocks row)
-  unfolding code
-  splat-coded v is w = rw (splat-tree nodes left k (r .linked) v is) w
+  unfolding code cut
+  splat-coded v is w = rw (splat-tree nodes left k (r .linked) v is) (put-written row-free (r .room) w)
 
   -- ---- an op
   module _ (o : ℕ) (is : nodeAt nodes k ≡ Node.Op o) where
@@ -114,11 +119,15 @@ module _ {nodes left : List ℕ} {k blocks row : ℕ} {section : List ℕ} (r : 
               omega (arith, r .room, written-length first, written-length second),
             )
 
-        pub op-coded : {after : List ℕ} {next : ℕ} → Written two after end next (Op end o (middle - 1) (end - 1) ∷ [])
+        pub op-coded : {after : List ℕ} {next : ℕ} → handed next after ≡ putting two end (Op end (cut o) (middle - 1) (end - 1))
             → Written section after row next (code vectorBytes (tree nodes left k) blocks row)
         unfolding code
-        op-coded w =
-            rw op-made (rw (← (code-rows (tree nodes left l) blocks first), ← (code-rows (tree nodes left (k - 1)) blocks second)) (written-then first (written-then second w)))
+        op-coded e =
+            let q = op-room in
+            let w = put-written (q .4) (q .5) (rw (cut-small o (omega (arith, q .0))) at e) in
+            rw op-made
+            (rw (← (code-rows (tree nodes left l) blocks first), ← (code-rows (tree nodes left (k - 1)) blocks second))
+            (written-then first (written-then second w)))
 
   -- ---- a shift
   module _ (s : ShiftBy) (is : nodeAt nodes k ≡ Node.Shift s) where
@@ -185,10 +194,14 @@ module _ {nodes left : List ℕ} {k blocks row : ℕ} {section : List ℕ} (r : 
             )
 
         pub shift-coded : {after : List ℕ} {next : ℕ}
-            → Written two after end next (pairUp vectorBytes (s .«from» .0) (s .to .0) end (middle - 1) (end - 1) ∷ [])
+            → handed next after ≡ putting two end (pairUp vectorBytes (cut (s .«from» .0)) (cut (s .to .0)) end (middle - 1) (end - 1))
             → Written section after row next (code vectorBytes (tree nodes left k) blocks row)
         unfolding code
-        shift-coded w =
+        shift-coded p =
+            let q = pair-room in
+            let from-small = cut-small (s .«from» .0) (omega (arith, q .0)) in
+            let to-small = cut-small (s .to .0) (omega (arith, q .1)) in
+            let w = put-written (q .5) (q .6) (rw (from-small, to-small) at p) in
             rw shift-made
             (rw (← e, ← (code-rows (tree nodes left (k - 1)) blocks this), ← (code-rows (tree nodes left (k - 1)) moved other))
             (written-then this (written-then other w)))

@@ -1,19 +1,14 @@
 -- Instructions written into a section, and what a tree's code needs so that it can be: numbers of 32 bits, and rows.
-use Prim.Native.Nat.{ℕ, _+_, _*_, _-_, _^_, _≤_, _<_, min}
+use Prim.Native.Nat.{ℕ, _+_, _*_, _-_, _^_, _≤_, _<_}
 use mathlib.Core.Path.{_≡_}
 use mathlib.Core.List.{List, [], _∷_, _++_}
 use lib.ListN.{length, getD}
-use lib.Seq.{sets}
 use Rattle.rules.specs.Limits.{vectorBytes, windows, addressMost, operations, nodesMost, sectionMost, longMost, instructionEntries}
 use Rattle.rules.specs.Trees.{Tree, load, splat, op, shift, nodeAt, treeAt}
 use Rattle.rules.specs.Code.{G, new, oldBlock}
-use Rattle.rules.specs.Tables.{entries}
 use Rattle.rules.specs.declared.program.Instruction.{Instruction}
 use Rattle.graph.specs.Links.{Linked}
-
--- a section with these instructions from a row on, and all else as it was
-unfoldable pub written : List ℕ → ℕ → List Instruction → List ℕ
-written section row is = sets section (instructionEntries * row) (entries is)
+use Rattle.emitting.specs.Putting.{written}
 
 -- a section before and after these instructions were written from a row on, and the row after them
 pub record Written (before after : List ℕ) (row next : ℕ) (is : List Instruction) : Type 0 where
@@ -34,10 +29,6 @@ Ranged (load w a) = (w < windows) × (a ≤ addressMost)
 Ranged (splat v) = Unit
 Ranged (op o l r) = (o < operations) × Ranged l × Ranged r
 Ranged (shift f g t) = (f < vectorBytes) × (g < vectorBytes) × Ranged t
-
--- G as it is counted: one more than LONG's bound stands for everything above it
-unfoldable pub capped : ℕ → ℕ
-capped size = min size (longMost + 1)
 
 -- what the code of node k stands on: where the inputs of the nodes up to it are, fields in their ranges, rows, and addresses
 -- that a next or a previous of each node on the way moves by a vector

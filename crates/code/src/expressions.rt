@@ -1,9 +1,9 @@
 // Code of a tree (document 001, figure 7): expressions and shifts generate each other. A node's inputs have lower numbers, so
 // the number falls.
-use crate::instructions::put_load;
-use crate::instructions::put_op;
-use crate::instructions::put_pair;
-use crate::instructions::put_splat;
+use emitting::put_load;
+use emitting::put_op;
+use emitting::put_pair;
+use emitting::put_splat;
 use rules::nodes::Node;
 use rules::nodes::ShiftBy;
 use rules::units::VectorNumber;
@@ -38,9 +38,9 @@ pub(crate) fn gen_expr(
     left: &[u8; 64],
     k: u8,
     blocks: VectorNumber,
-    row: usize,
+    row: u32,
     section: &mut [u32],
-) -> usize
+) -> u32
     requires { ⌜ Ready (now nodes) (now left) k (blocks .0) row (now section) ⌝ }
     ensures { λ r. ⌜ Written (now (section .entry)) (now (section .exit)) row r (code vectorBytes (treeAt (nodeAt (now (nodes .entry))) k) (blocks .0) row) ⌝ }
 {
@@ -69,9 +69,9 @@ fn gen_shift(
     k: u8,
     by: ShiftBy,
     blocks: VectorNumber,
-    row: usize,
+    row: u32,
     section: &mut [u32],
-) -> usize
+) -> u32
     requires { ⌜ (nodeAt (now nodes) k ≡ Shift by) × Ready (now nodes) (now left) k (blocks .0) row (now section) ⌝ }
     ensures { λ r. ⌜ Written (now (section .entry)) (now (section .exit)) row r (code vectorBytes (treeAt (nodeAt (now (nodes .entry))) k) (blocks .0) row) ⌝ }
 {

@@ -1,11 +1,8 @@
 // Translating (document 01, "Vector code"): a graph handed over as tables becomes a program in three lent sections, or is refused.
 mod counts;
 mod expressions;
-mod instructions;
-mod judge;
 mod programs;
 mod sections;
-mod size;
 
 use rules::answers::TranslateAnswer;
 use rules::program::ProgramHead;
@@ -54,7 +51,7 @@ pub fn translate(
 ) -> Translated
     ensures { λ r. ⌜ programGiven r (now (prologue .exit)) (now (body .exit)) (now (epilogue .exit)) ≡ translating vectorBytes (now (head .entry)) (now (nodes .entry)) «work_len» «table_len» (now (prologue .entry)) (now (body .entry)) (now (epilogue .entry)) ⌝ }
 {
-    let answer = judge::judge(head, nodes, work_len, table_len, prologue, body, epilogue);
+    let answer = translatable::judge(head, nodes, work_len, table_len, prologue, body, epilogue);
     if let TranslateAnswer::Room = answer {
         return Translated {
             answer: TranslateAnswer::Room,

@@ -3,10 +3,10 @@
 use crate::counts::byte_of_element;
 use crate::counts::store_offset;
 use crate::expressions::gen_expr;
-use crate::instructions::BLOCK_ZERO;
-use crate::instructions::put_load;
-use crate::instructions::put_splice;
-use crate::instructions::put_store;
+use emitting::BLOCK_ZERO;
+use emitting::put_load;
+use emitting::put_splice;
+use emitting::put_store;
 use rules::nodes::LoadAt;
 use rules::units::ByteOffset;
 use rules::units::ElementNumber;
@@ -31,7 +31,7 @@ fn put_blocks(
     root: u8,
     store: ByteOffset,
     section: &mut [u32],
-) -> usize
+) -> u32
     requires { ⌜ Root (now nodes) (now left) root (store .0) × Roomy (now section) ⌝ }
     ensures { λ r. ⌜ Written (now (section .entry)) (now (section .exit)) 0 r (newAndOld (store .0) (treeAt (nodeAt (now (nodes .entry))) root)) ⌝ }
 {
@@ -53,7 +53,7 @@ pub(crate) fn put_only(
     width: Width,
     elements: ElementNumber,
     section: &mut [u32],
-) -> usize
+) -> u32
     requires { ⌜ Root (now nodes) (now left) root (store .0) × Roomy (now section) × (elements .0 ≤ elementsMost) ⌝ }
     ensures { λ r. ⌜ Written (now (section .entry)) (now (section .exit)) 0 r (onlySection vectorBytes (store .0) (treeAt (nodeAt (now (nodes .entry))) root) (widthBytes width) (elements .0)) ⌝ }
 {
@@ -75,7 +75,7 @@ pub(crate) fn put_prologue(
     root: u8,
     store: ByteOffset,
     section: &mut [u32],
-) -> usize
+) -> u32
     requires { ⌜ Root (now nodes) (now left) root (store .0) × Roomy (now section) ⌝ }
     ensures { λ r. ⌜ Written (now (section .entry)) (now (section .exit)) 0 r (prologueSection vectorBytes (store .0) (treeAt (nodeAt (now (nodes .entry))) root)) ⌝ }
 {
@@ -94,7 +94,7 @@ pub(crate) fn put_body(
     store: ByteOffset,
     full: VectorNumber,
     section: &mut [u32],
-) -> usize
+) -> u32
     requires { ⌜ Root (now nodes) (now left) root (store .0) × Roomy (now section) ⌝ }
     ensures { λ r. ⌜ Written (now (section .entry)) (now (section .exit)) 0 r (bodyOf vectorBytes (store .0) (treeAt (nodeAt (now (nodes .entry))) root) (full .0)) ⌝ }
 {
@@ -116,7 +116,7 @@ pub(crate) fn put_epilogue(
     width: Width,
     rest: ElementNumber,
     section: &mut [u32],
-) -> usize
+) -> u32
     requires { ⌜ Root (now nodes) (now left) root (store .0) × Roomy (now section) × (rest .0 ≤ elementsMost) ⌝ }
     ensures { λ r. ⌜ Written (now (section .entry)) (now (section .exit)) 0 r (epilogueOf vectorBytes (widthBytes width) (store .0) (treeAt (nodeAt (now (nodes .entry))) root) (rest .0)) ⌝ }
 {

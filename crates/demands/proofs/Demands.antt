@@ -2,18 +2,17 @@
 -- function (`Allowed` of its crate's Outcomes) and that windows hold bytes; nothing is assumed of the functions' code. What the
 -- words mean is in crates/rules/specs; why it holds is in crates/theory, which says the same of the definitions.
 use Prim.Native.Nat.{ℕ, _≤_, _<_}
-use mathlib.Core.Path.{_≡_, refl, sym, ap, _∙_}
+use mathlib.Core.Path.{_≡_, sym, ap, _∙_}
 use mathlib.Core.Logic.{_≢_}
 use mathlib.Core.List.{List}
-use native.Mathlib.Omega.{arith}
 use lib.ListN.{length, take}
 use Rattle.rules.specs.Limits.{vectorBytes}
-use Rattle.rules.specs.Answers.{Answer, DONE, OUT, FAULT, done, after, ofRead, ofTranslate, ofPlan, ofPlain, ofPlace, ofRun}
+use Rattle.rules.specs.Answers.{DONE, OUT, FAULT, done, after, ofRead, ofTranslate, ofPlan, ofPlain, ofPlace, ofRun}
 use Rattle.rules.specs.Placing.{place}
 use Rattle.rules.specs.Machine.{start}
 use Rattle.rules.specs.Code.{stepsOf}
 use Rattle.rules.specs.Tables.{Graph, graphOf}
-use Rattle.rules.specs.Calls.{WithSheet, WithProgram, WithWork, graphTree, graphPlain, placeAnswer, planAnswer, translateAnswer, translating, planning, placing, looping}
+use Rattle.rules.specs.Calls.{WithSheet, WithProgram, WithWork, graphTree, graphPlain, planAnswer, translateAnswer, translating, planning, placing}
 use Rattle.rules.specs.declared.program.ProgramHead.{ProgramHead}
 use Rattle.rules.specs.declared.answers.ReadAnswer.{ReadAnswer}
 use Rattle.rules.specs.declared.answers.CheckAnswer.{CheckAnswer}
@@ -33,9 +32,7 @@ use Rattle.machine.proofs.Outcomes as machine
 use Rattle.sheet.proofs.Outcomes as sheet
 use Rattle.graph.proofs.Outcomes as graph-call
 use Rattle.offsets.proofs.Outcomes as offsets
-use Rattle.plain.specs.Looping.{looped}
 use Rattle.plain.proofs.Outcomes as plain
-use Rattle.placing.specs.Handing.{sheetGiven}
 use Rattle.placing.proofs.Outcomes as placing-call
 use Rattle.code.specs.Emitting.{programGiven}
 use Rattle.code.specs.declared.Translated.{Translated}

@@ -11,9 +11,11 @@ use Rattle.rules.specs.Limits.{vectorBytes, nodesMost}
 use Rattle.rules.specs.Units.{widthBytes}
 use Rattle.rules.specs.Answers.{RANGE, SHAPE, at, refuseIf, first, each, ofCheck}
 use Rattle.rules.specs.Tables.{graphOf}
-use Rattle.rules.specs.Checks.{storeLine, line, waits, rowCheck, endCheck, formCheck}
+use Rattle.rules.specs.Checks.{storeLine, headShort, nodesShort, line, waits, rowCheck, endCheck, formCheck}
+use Rattle.rules.specs.Calls.{checking}
 use Rattle.rules.specs.declared.answers.CheckAnswer.{CheckAnswer}
 use Rattle.theory.proofs.FormLaws.{Formed, first-each}
+use Rattle.theory.proofs.Firsts.{form-alone}
 use Rattle.theory.proofs.Checked.{head-passes}
 use Rattle.ranges.proofs.RangeLaws.{width-back}
 use Rattle.graph.specs.Headers.{headInRange, headerOf, graphIn}
@@ -49,6 +51,11 @@ end-judged count now nodes e = go (ltb nodesMost count) refl
         rw (w, m) (alone (not (eqb (waits nodes count) 1)) (line count))
 
 module _ (head nodes : List ℕ) where
+  -- where neither table is too short, the form alone is judged
+  pub roomy-checking : (W : ℕ) → (headShort head || nodesShort nodes) ≡ false → checking W head nodes ≡ formCheck W (graphOf head nodes)
+  unfolding checking first
+  roomy-checking W e = rw e (form-alone W (graphOf head nodes))
+
   pub head-refused : headInRange head ≡ false → formCheck vectorBytes (graphOf head nodes) ≡ at RANGE storeLine
   unfolding formCheck first
   head-refused e = rw e

@@ -1,4 +1,5 @@
 pub mod LinkLaws
+pub mod InputLaws
 pub mod RowChecks
 pub mod HeaderLaws
 pub mod Outcomes

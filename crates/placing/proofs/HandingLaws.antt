@@ -9,7 +9,7 @@ use lib.ListN.{length, set, drop, replicate, length-replicate}
 use lib.Seq.{sets, sets-eq}
 use Rattle.rules.specs.Limits.{vectorBytes, nodesMost}
 use Rattle.rules.specs.Frames.{shiftKind}
-use Rattle.rules.specs.Trees.{Tree, cell, nodeOf, nodeAt, top, waiting, treeAt, treeOf, rows, count}
+use Rattle.rules.specs.Trees.{Tree, cell, nodeOf, nodeAt, treeAt, rows, count}
 use Rattle.rules.specs.Offsets.{storeOffset}
 use Rattle.rules.specs.Placing.{dominant, place}
 use Rattle.rules.specs.Tables.{Graph, padded}
@@ -18,12 +18,12 @@ use Rattle.rules.specs.declared.nodes.Node.{Node}
 use Rattle.rules.specs.declared.nodes.NodeRecord.{NodeRecord}
 use Rattle.rules.specs.declared.nodes.Offset.the-variants.{Undefined}
 use Rattle.theory.proofs.RowLaws.{length-rows}
-use Rattle.theory.proofs.FormLaws.{some-row}
 use Rattle.theory.proofs.Checked.{sixteen, bare-done, bare-count, graph-unshifted}
 use Rattle.theory.proofs.PlacedSize.{place-count}
 use Rattle.theory.proofs.Placed.{Unshifted}
 use Rattle.graph.specs.Links.{leftIn, lefts, Linked}
 use Rattle.graph.proofs.LinkLaws.{lefts-linked}
+use Rattle.graph.proofs.InputLaws.{some-node, root-tree}
 use Rattle.placing.specs.declared.rule.Moves.{Moves}
 use Rattle.placing.specs.Moves.{at, goes, moved, moves, movesOf}
 use Rattle.placing.specs.Writing.{Wrote}
@@ -52,19 +52,12 @@ kind-no-shift (suc (suc (suc zero))) x y h = tt
 kind-no-shift (suc (suc (suc (suc zero)))) x y h = h refl
 kind-no-shift (suc (suc (suc (suc (suc k))))) x y h = tt
 
--- the tree of the last node is the whole tree
-tree-last : (nodes : List ℕ) (N : ℕ) → 1 ≤ N → treeAt (nodeAt nodes) (N - 1) ≡ treeOf nodes N
-unfolding treeAt treeOf
-tree-last nodes N h =
-    let e : suc (N - 1) ≡ N = omega arith in
-    ap (λ (k : ℕ). top (waiting (nodeAt nodes) k)) e
-
 module _ (g : Graph) (b : BareSheet g) where
   abbrev node : ℕ → Node
   node = nodeAt (g .nodes)
 
   pub has-last : 1 ≤ g .N
-  has-last = some-row vectorBytes (g .D) (g .N) (g .nodes) (b .formed .rows)
+  has-last = some-node g (b .formed)
 
   pub sheet-linked : (left : List ℕ) → left ≡ lefts node nodesMost → Linked node (leftIn left) (g .N)
   sheet-linked left e = rw e (lefts-linked vectorBytes g (b .formed))
@@ -93,7 +86,7 @@ module _ (g : Graph) (b : BareSheet g) where
           let c = storeOffset vectorBytes (g .S) in
           let t : treeAt (nodeIn recs) (g .N - 1) ≡ graphTree g =
           same-tree vectorBytes m (g .nodes) recs [] (g .N) is (g .N - 1) (omega (arith, has-last))
-          ∙ tree-last (g .nodes) (g .N) has-last in
+          ∙ root-tree (g .nodes) (g .N) has-last in
           ap (λ (x : Tree). rows (goes vectorBytes (at c) (moved vectorBytes m x))) t
           ∙ rw e (ap rows (sym (place-moved vectorBytes (g .S) rule (graphTree g) unshifted)))
 

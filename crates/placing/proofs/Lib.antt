@@ -3,5 +3,5 @@ pub mod RecordLaws
 pub mod RowLaws
 pub mod MetLaws
 pub mod HandingLaws
-pub mod JudgeLaws
+pub mod AnswerLaws
 pub mod Outcomes

@@ -1,13 +1,12 @@
--- What is judged of a sheet, and what of a graph is handed back.
+-- What placing stands on, and what of a graph is handed back.
 use Prim.Native.Nat.{ℕ}
 use mathlib.Core.Path.{_≡_}
-use mathlib.Core.Bool.{Bool, _||_}
 use mathlib.Core.List.{List, [], _∷_}
 use lib.ListN.{length, getD}
 use Rattle.rules.specs.Limits.{vectorBytes}
-use Rattle.rules.specs.Answers.{Answer, DONE, first, ofPlace}
+use Rattle.rules.specs.Answers.{DONE, ofPlace}
 use Rattle.rules.specs.Tables.{Graph, padded}
-use Rattle.rules.specs.Checks.{headShort, nodesShort, bareCheck, alignCheck}
+use Rattle.rules.specs.Checks.{bareCheck}
 use Rattle.rules.specs.Calls.{WithSheet, placedGraph}
 use Rattle.rules.specs.declared.answers.PlaceAnswer.{PlaceAnswer}
 use Rattle.theory.proofs.FormLaws.{Formed}
@@ -16,14 +15,6 @@ use Rattle.theory.proofs.FormLaws.{Formed}
 pub record BareSheet (g : Graph) : Type 0 where
   pub formed : Formed vectorBytes g
   pub bare : bareCheck g .number ≡ DONE
-
--- whether one of the four tables is too short
-abbrev pub tablesShort : (head nodes placedHead placedNodes : List ℕ) → Bool
-tablesShort head nodes placedHead placedNodes = headShort head || nodesShort nodes || headShort placedHead || nodesShort placedNodes
-
--- the first refusal of a graph that passes as if read
-abbrev pub linesAnswer : Graph → Answer
-linesAnswer g = first (bareCheck g ∷ alignCheck g ∷ [])
 
 -- a head with another number of nodes
 abbrev pub headWith : (head : List ℕ) (N : ℕ) → List ℕ

@@ -1,6 +1,5 @@
 // Placing (document 01, "Placing"): shifts put into a bare sheet by one of four rules, and the placed graph handed back.
 mod dominant;
-mod judging;
 mod placed;
 mod records;
 mod rows;
@@ -22,7 +21,7 @@ pub fn place(
 ) -> PlaceAnswer
     ensures { λ r. ⌜ sheetGiven r (now («placed_head» .exit)) (now («placed_nodes» .exit)) ≡ placing vectorBytes rule (now (head .entry)) (now (nodes .entry)) (now («placed_head» .entry)) (now («placed_nodes» .entry)) ⌝ }
 {
-    let answer = judging::judge(rule, head, nodes, placed_head, placed_nodes);
+    let answer = placeable::judge(rule, head, nodes, placed_head, placed_nodes);
     match answer {
         PlaceAnswer::Room => PlaceAnswer::Room,
         PlaceAnswer::Done => {

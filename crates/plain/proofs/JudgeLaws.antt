@@ -6,19 +6,18 @@ use mathlib.Core.Bool.{Bool, true, _&&_, false≢true}
 use mathlib.Core.Logic.{inl, inr}
 use mathlib.Core.List.{List, [], _∷_}
 use native.Mathlib.Omega.{arith}
-use native.Mathlib.Nat.{le-trans}
 use borrow.Author.Tests.{leb-true, ltb-true}
 use types.Run.{OneOf}
 use denote.Enum.Declared.{tagOf}
 use lib.Dec.{ltb, leb, eqb}
-use lib.ListN.{length, getD}
+use lib.ListN.{length}
 use Rattle.rules.specs.Limits.{vectorBytes, nodesMost, elementsMost, addressMost, windows}
 use Rattle.rules.specs.Units.{isWidth}
 use Rattle.rules.specs.Elements.{modulus}
 use Rattle.rules.specs.Frames.{loadKind}
 use Rattle.rules.specs.Ranges.{headOk, loadOk, splatOk, rowOk}
 use Rattle.rules.specs.Trees.{cell, nodeOf, nodeAt}
-use Rattle.rules.specs.Answers.{Answer, DONE, done, at, first, ofPlain}
+use Rattle.rules.specs.Answers.{Answer, DONE, done, at, ofPlain}
 use Rattle.rules.specs.Tables.{Graph, graphOf}
 use Rattle.rules.specs.Checks.{lengthOf, boundsCheck}
 use Rattle.rules.specs.Calls.{checking, plainAnswer, graphPlain, looping}
@@ -26,14 +25,13 @@ use Rattle.rules.specs.declared.answers.PlainAnswer.{PlainAnswer}
 use Rattle.rules.specs.declared.answers.PlainAnswer.the-variants as Plain
 use Rattle.rules.proofs.answers.PlainAnswer.{the-type}
 use Rattle.theory.proofs.Lists.{and-left, and-right}
-use Rattle.theory.proofs.Firsts.{first-passed}
 use Rattle.theory.proofs.FormLaws.{Formed, each-check-done, passes-formed, some-row}
 use Rattle.theory.proofs.Checked.{head-passes, bounds-done}
 use Rattle.graph.specs.Links.{lefts}
 use Rattle.graph.specs.Headers.{headerOf, graphIn}
-use Rattle.graph.proofs.LinkLaws.{lefts-at, formed-linked}
+use Rattle.graph.proofs.LinkLaws.{lefts-linked}
 use Rattle.graph.proofs.HeaderLaws.{header-graph}
-use Rattle.plain.specs.Looping.{looped, formedAnswer}
+use Rattle.plain.specs.Looping.{looped}
 use Rattle.plain.specs.Evaluating.{Ranged, Loopable}
 
 -- ---- a row in range, whose load lies in its window
@@ -60,7 +58,6 @@ formed-loopable : (W : ℕ) (g : Graph) → Formed W g → (workLen tableLen : �
 unfolding nodeAt
 formed-loopable W g f workLen tableLen b =
     let inside = bounds-done g workLen tableLen b in
-    let left : List ℕ = lefts (nodeAt (g .nodes)) nodesMost in
     record {
       rooted = some-row W (g .D) (g .N) (g .nodes) (f .rows);
       store = store-small (g .D) (g .n) (g .S) (f .head);
@@ -69,7 +66,7 @@ formed-loopable W g f workLen tableLen b =
           record {
             few = head-passes (g .D) (g .n) (g .S) (f .head) .elements;
             most = f .most;
-            linked = formed-linked W g f (λ (k : ℕ). getD left k 0) (λ k h. lefts-at (nodeAt (g .nodes)) nodesMost k (le-trans h (f .most)));
+            linked = lefts-linked W g f;
             ranged = λ k h. ranged-row W (g .D) (g .n) (cell (g .nodes) k 0) (cell (g .nodes) k 1) (cell (g .nodes) k 2) workLen tableLen
                 (f .rows .inRange k h) (inside .1 k h);
           };
@@ -77,26 +74,13 @@ formed-loopable W g f workLen tableLen b =
 
 -- ---- the answer
 
-pub all-passed : (x y z : Answer) → x ≡ done → y ≡ done → z ≡ done → done ≡ first (x ∷ y ∷ z ∷ [])
-unfolding first
-all-passed x y z e f g = rw (e, f, g)
-
 module _ (head nodes : List ℕ) (workLen tableLen : ℕ) where
   abbrev g : Graph
   g = graphOf head nodes
 
-  pub checking-formed : checking vectorBytes head nodes .number ≡ DONE → Formed vectorBytes g
+  checking-formed : checking vectorBytes head nodes .number ≡ DONE → Formed vectorBytes g
   unfolding checking
   checking-formed e = passes-formed vectorBytes g (each-check-done _ e 1)
-
-  -- a form that passes: its header has all of its graph, and the other checks give the answer
-  pub form-passed : checking vectorBytes head nodes ≡ done → (answer : Answer)
-      → answer ≡ formedAnswer (graphIn (headerOf head) nodes) workLen tableLen → answer ≡ plainAnswer vectorBytes head nodes workLen tableLen
-  form-passed e answer h =
-      let f : Formed vectorBytes g = checking-formed (ap (λ (a : Answer). a .number) e) in
-      h
-      ∙ ap (λ (g : Graph). formedAnswer g workLen tableLen) (header-graph vectorBytes head nodes f)
-      ∙ sym (first-passed (checking vectorBytes head nodes) _ e)
 
   pub done-loopable : done ≡ plainAnswer vectorBytes head nodes workLen tableLen
       → Loopable (graphIn (headerOf head) nodes) (lefts (nodeAt nodes) nodesMost) workLen tableLen

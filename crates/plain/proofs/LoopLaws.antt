@@ -1,6 +1,6 @@
 -- The loop: after i elements work is as the definition has it, and its length is kept, so that the next element can be evaluated
 -- and stored.
-use Prim.Native.Nat.{ℕ, zero, suc, _+_, _-_, _*_, _≤_, _<_}
+use Prim.Native.Nat.{ℕ, suc, _+_, _-_, _*_, _≤_, _<_}
 use mathlib.Core.Path.{_≡_, refl, _∙_}
 use mathlib.Core.List.{List}
 use native.Mathlib.Nat.{suc-mul, mul-le-mul-right}
@@ -9,17 +9,13 @@ use native.Mathlib.Omega.{arith}
 use lib.ListN.{length}
 use lib.Seq.{paste}
 use Rattle.rules.specs.Elements.{toBytes}
-use Rattle.rules.specs.Trees.{Tree, nodeAt, treeAt, treeOf}
+use Rattle.rules.specs.Trees.{Tree, nodeAt, treeAt}
 use Rattle.rules.specs.PlainLoop.{plain}
 use Rattle.rules.specs.Tables.{Graph}
 use Rattle.rules.specs.Calls.{graphPlain}
+use Rattle.graph.proofs.InputLaws.{root-tree}
 use Rattle.plain.specs.Evaluating.{Evaluable, Loopable, Valued}
 use Rattle.plain.proofs.ValueLaws.{evaluable-fewer}
-
-root-tree : (nodes : List ℕ) (N : ℕ) → 0 < N → treeAt (nodeAt nodes) (N - 1) ≡ treeOf nodes N
-unfolding treeAt treeOf
-root-tree nodes zero h = absurd (omega arith)
-root-tree nodes (suc N) h = let e : suc N - 1 ≡ N = omega arith in rw e
 
 -- how work stands after the first i of n elements
 pub record After (D S n : ℕ) (t : Tree) (work₀ table : List ℕ) (i : ℕ) (work : List ℕ) : Type 0 where

@@ -5,7 +5,6 @@ use mathlib.Core.List.{List}
 use Prim.Native.Nat.{ℕ}
 use Rattle.rules.specs.Limits.{vectorBytes}
 use Rattle.rules.specs.Calls.{WithProgram, planning}
-use Rattle.rules.specs.declared.program.ProgramHead.{ProgramHead}
 use Rattle.theory.proofs.AnswerLaws.{plan-told-apart}
 use Rattle.theory.proofs.Demands.{ProgramLeaves, planning-leaves}
 use Rattle.planner.specs.Planning.{planGiven}

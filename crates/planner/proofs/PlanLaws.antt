@@ -23,7 +23,8 @@ use Rattle.theory.proofs.Stepwise.{placed-translates}
 use Rattle.placing.specs.Handing.{sheetGiven}
 use Rattle.code.specs.Emitting.{programGiven}
 use Rattle.code.specs.declared.Translated.{Translated}
-use Rattle.planner.specs.Planning.{planGiven, tablesShort}
+use Rattle.plannable.specs.Judging.{tablesShort}
+use Rattle.planner.specs.Planning.{planGiven}
 
 -- a check with nothing to refuse leaves the answer to the next
 passes : (check : Answer) (later : List Answer) → check .number ≡ DONE → first (check ∷ later) ≡ first later

@@ -1,7 +1,5 @@
 // The one-step call: a bare sheet is placed by a rule and translated at once. It is judged first, 5 to 9 on the bare sheet and its
 // lines; then it is placed into tables of the call's own, and those are translated.
-mod judging;
-
 use rules::answers::PlanAnswer;
 use rules::program::ProgramHead;
 ghost use mathlib.Core.Path.{_≡_};
@@ -41,7 +39,7 @@ pub fn plan(
 ) -> Planned
     ensures { λ r. ⌜ planGiven r (now (prologue .exit)) (now (body .exit)) (now (epilogue .exit)) ≡ planning vectorBytes rule (now (head .entry)) (now (nodes .entry)) «work_len» «table_len» (now (prologue .entry)) (now (body .entry)) (now (epilogue .entry)) ⌝ }
 {
-    let answer = judging::judge(
+    let answer = plannable::judge(
         rule,
         head,
         nodes,

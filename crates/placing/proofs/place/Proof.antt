@@ -1,4 +1,4 @@
-use Rattle.placing.proofs.JudgeLaws.{done-accepted, room-leaves, done-leaves, refusal-leaves}
+use Rattle.placing.proofs.AnswerLaws.{done-accepted, room-leaves, done-leaves, refusal-leaves}
 use borrow.Author.Needs.{needs}
 use Rattle.placing.proofs.place.Statement.{statement}
 use Rattle.placing.proofs.place.Tie as tie

@@ -7,11 +7,9 @@ use borrow.Author.Needs.{needs}
 use lib.Dec.{eqb}
 use Rattle.rules.specs.Units.{widthBytes}
 use Rattle.rules.specs.Frames.{loadKind}
-use Rattle.rules.specs.Answers.{each}
-use Rattle.rules.specs.Checks.{misaligned, alignRow, alignCheck}
+use Rattle.rules.specs.Checks.{misaligned, alignCheck}
 use Rattle.rules.specs.declared.sheet.Row.{Row}
 use Rattle.rules.specs.declared.units.Width.{Width}
-use Rattle.graph.specs.Headers.{graphIn}
 use Rattle.theory.proofs.Firsts.{Passed, passed-none}
 use Rattle.checks.proofs.LineLaws.{rowJudged, store-refuses, store-passes, row-passes, row-refuses, rows-pass}
 use Rattle.checks.proofs.addresses.align.Statement.{statement}

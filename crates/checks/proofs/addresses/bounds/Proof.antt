@@ -7,10 +7,8 @@ use borrow.Author.Needs.{needs}
 use lib.Dec.{eqb}
 use Rattle.rules.specs.Units.{widthBytes}
 use Rattle.rules.specs.Frames.{loadKind}
-use Rattle.rules.specs.Answers.{each}
-use Rattle.rules.specs.Checks.{beyond, lengthOf, boundsRow, boundsCheck}
+use Rattle.rules.specs.Checks.{beyond, lengthOf, boundsCheck}
 use Rattle.rules.specs.declared.sheet.Row.{Row}
-use Rattle.graph.specs.Headers.{graphIn}
 use Rattle.graph.specs.declared.headers.Header.{Header}
 use Rattle.theory.proofs.Firsts.{Passed, passed-none}
 use Rattle.checks.proofs.LineLaws.{rowJudged, store-refuses, store-passes, row-passes, row-refuses, rows-pass}

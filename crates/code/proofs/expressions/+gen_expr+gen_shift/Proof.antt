@@ -5,7 +5,7 @@ use native.Mathlib.Omega.{arith}
 use borrow.Author.Needs.{needs}
 use Rattle.rules.specs.Trees.{nodeAt}
 use Rattle.rules.specs.declared.nodes.Node.the-variants.{Op}
-use Rattle.code.proofs.ExpressionLaws.{row-free, load-ranged, load-coded, splat-coded, op-falls, left-ready, right-ready, op-room, op-coded}
+use Rattle.code.proofs.ExpressionLaws.{load-coded, splat-coded, op-falls, left-ready, right-ready, op-room, op-coded}
 use Rattle.code.proofs.ExpressionLaws.{shift-falls, this-ready, beside-room, other-ready, pair-room, shift-coded}
 use Prim.Native.Nat.{ℕ, _+_, _*_, _<_}
 use borrow.Fn.Kinds.{In}
@@ -17,10 +17,10 @@ use Rattle.code.proofs.expressions.gen_shift.Reads as gen-shift
 use Rattle.code.proofs.expressions.gen_shift.Kinds as gen-shift-kinds
 use Rattle.code.proofs.expressions.+gen_expr+gen_shift.Lts-gen_shift as gen-shift-lts
 use Rattle.code.proofs.expressions.beside.Reads as beside-reads
-use Rattle.code.proofs.instructions.put_load.Reads as put-load-reads
-use Rattle.code.proofs.instructions.put_op.Reads as put-op-reads
-use Rattle.code.proofs.instructions.put_pair.Reads as put-pair-reads
-use Rattle.code.proofs.instructions.put_splat.Reads as put-splat-reads
+use Rattle.emitting.proofs.put_load.Reads as put-load-reads
+use Rattle.emitting.proofs.put_op.Reads as put-op-reads
+use Rattle.emitting.proofs.put_pair.Reads as put-pair-reads
+use Rattle.emitting.proofs.put_splat.Reads as put-splat-reads
 use Rattle.tables.proofs.node_at.Reads as node-at-reads
 use Rattle.code.proofs.expressions.+gen_expr+gen_shift.{statement}
 use Rattle.code.proofs.expressions.+gen_expr+gen_shift.Tie.{close}
@@ -84,22 +84,13 @@ gen-expr-enum-known-node : (t : ℕ) → gen-expr-lts.Need-enum-known-node (gen-
 gen-expr-enum-known-node t c = c .match .keys1
 
 gen-expr-put-load-requires : (t : ℕ) → gen-expr-lts.Need-put-load-requires (gen-expr-calls t) (gen-expr-at t) gen-expr.Post
-gen-expr-put-load-requires t c κs =
-    let n = c .before .before in
-    let a = n .before .before in
-    let s = a .before .before .before in
-    let r = s .pre .1 in
-    let is = sym (a .node-at .ensures) ∙ n .node .given .1 in
-    let q = load-ranged r _ is in
-    ((row-free r, r .room), (q .0, q .1, omega (arith, r .below)))
+gen-expr-put-load-requires t c κs = search needs
 
 gen-expr-enum-known-node-2 : (t : ℕ) → gen-expr-lts.Need-enum-known-node-2 (gen-expr-calls t) (gen-expr-at t) gen-expr.Post
 gen-expr-enum-known-node-2 t c = c .match .keys2
 
 gen-expr-put-splat-requires : (t : ℕ) → gen-expr-lts.Need-put-splat-requires (gen-expr-calls t) (gen-expr-at t) gen-expr.Post
-gen-expr-put-splat-requires t c κs =
-    let s = c .before .before .before .before .before .before .before in
-    (row-free (s .pre .1), s .pre .1 .room)
+gen-expr-put-splat-requires t c κs = search needs
 
 gen-expr-enum-known-node-3 : (t : ℕ) → gen-expr-lts.Need-enum-known-node-3 (gen-expr-calls t) (gen-expr-at t) gen-expr.Post
 gen-expr-enum-known-node-3 t c = c .match .keys3
@@ -147,13 +138,7 @@ gen-expr-sub-right-register t c =
     omega (arith, q .3)
 
 gen-expr-put-op-requires : (t : ℕ) → gen-expr-lts.Need-put-op-requires (gen-expr-calls t) (gen-expr-at t) gen-expr.Post
-gen-expr-put-op-requires t c κs =
-    let g = c .before .before .before in
-    let f = g .before .before .before .before in
-    let n = f .before .before .before .before in
-    let r = n .before .before .before .before .before .pre .1 in
-    let q = op-room r _ (is-op t n) (f .gen-expr .ensures) (g .gen-expr2 .ensures) in
-    ((q .4, q .5), (q .0, omega (arith, q .2, q .4), omega (arith, q .4)))
+gen-expr-put-op-requires t c κs = search needs
 
 gen-expr-enum-known-node-4 : (t : ℕ) → gen-expr-lts.Need-enum-known-node-4 (gen-expr-calls t) (gen-expr-at t) gen-expr.Post
 gen-expr-enum-known-node-4 t c = c .match .keys4
@@ -256,14 +241,7 @@ gen-shift-sub-other t c =
     omega (arith, q .4)
 
 gen-shift-put-pair-requires : (t : ℕ) → gen-shift-lts.Need-put-pair-requires (gen-shift-calls t) (gen-shift-at t) gen-shift.Post
-gen-shift-put-pair-requires t c κs =
-    let g = c .before .before .before in
-    let f = g .before .before .before .before in
-    let b = f .before .before in
-    let s = b .before .before .before in
-    let p = s .pre .1 in
-    let q = pair-room (p .1) _ (p .0) (f .gen-expr .ensures) _ (b .beside .ensures) (g .gen-expr2 .ensures) in
-    ((q .5, q .6), (q .0, q .1, omega (arith, q .3, q .5), omega (arith, q .5)))
+gen-shift-put-pair-requires t c κs = search needs
 
 gen-shift-same-length : (t : ℕ) → gen-shift-lts.Need-same-length (gen-shift-calls t) (gen-shift-at t) gen-shift.Post
 gen-shift-same-length t c = search needs

@@ -32,6 +32,9 @@ returns c =
 put-only-requires : tie.Need-put-only-requires
 put-only-requires c κs = search needs
 
+cast-program : tie.Need-cast-program
+cast-program c = search needs
+
 same-length : tie.Need-same-length
 same-length c = search needs
 
@@ -52,8 +55,14 @@ returns-2 c =
 put-prologue-requires : tie.Need-put-prologue-requires
 put-prologue-requires c κs = search needs
 
+cast-program-2 : tie.Need-cast-program-2
+cast-program-2 c = search needs
+
 put-body-requires : tie.Need-put-body-requires
 put-body-requires c κs = search needs
+
+cast-program-3 : tie.Need-cast-program-3
+cast-program-3 c = search needs
 
 put-epilogue-requires : tie.Need-put-epilogue-requires
 put-epilogue-requires c κs =
@@ -61,6 +70,9 @@ put-epilogue-requires c κs =
     let s = v .before .before .before .before .before .before .before in
     let h = s .args .header in
     (s .pre .0 .2, search needs, rw (v .split-stream .ensures .1) (rest-most (h .width) (h .elements) (h .store .0)))
+
+cast-program-4 : tie.Need-cast-program-4
+cast-program-4 c = search needs
 
 same-length-2 : tie.Need-same-length-2
 same-length-2 c = search needs
@@ -96,11 +108,15 @@ emit-spec =
     width-bytes-requires
     returns
     put-only-requires
+    cast-program
     same-length
     returns-2
     put-prologue-requires
+    cast-program-2
     put-body-requires
+    cast-program-3
     put-epilogue-requires
+    cast-program-4
     same-length-2
     same-length-3
     same-length-4

@@ -1,5 +1,5 @@
 -- The old block goes after the tree's code.
-use Rattle.code.proofs.SectionLaws.{tree-room, blocks-written}
+use Rattle.code.proofs.SectionLaws.{blocks-written}
 use borrow.Author.Needs.{needs}
 use Rattle.code.proofs.sections.put_blocks.Statement.{statement}
 use Rattle.code.proofs.sections.put_blocks.Tie as tie
@@ -8,11 +8,7 @@ gen-expr-requires : tie.Need-gen-expr-requires
 gen-expr-requires c κs = search needs
 
 put-load-requires : tie.Need-put-load-requires
-put-load-requires c κs =
-    let g = c .before .before .before in
-    let s = g .before .before .before .before in
-    let q = tree-room (s .pre .0) (s .pre .1) (g .gen-expr .ensures) in
-    ((q .1, q .2), (search needs, s .pre .0 .address, search needs))
+put-load-requires c κs = search needs
 
 same-length : tie.Need-same-length
 same-length c = search needs

@@ -21,11 +21,7 @@ sub-new c =
     omega (arith, q .0)
 
 put-store-requires : tie.Need-put-store-requires
-put-store-requires c κs =
-    let g = c .before .before .before in
-    let s = g .before .before .before .before .before .before in
-    let q = tree-room (s .pre .0) (s .pre .1) (g .gen-expr .ensures) in
-    (q .1, q .2, omega (arith, q .1), s .pre .0 .address)
+put-store-requires c κs = search needs
 
 same-length : tie.Need-same-length
 same-length c = search needs

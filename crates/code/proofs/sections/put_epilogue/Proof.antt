@@ -4,7 +4,6 @@ use native.Mathlib.Nat.{mul-le-mul}
 use native.Mathlib.Omega.{arith}
 use Rattle.rules.specs.Units.{widthBytes}
 use Rattle.rules.specs.declared.units.ByteOffset.{ByteOffset}
-use Rattle.code.proofs.WritingLaws.{written-length}
 use Rattle.code.proofs.CountLaws.{width-most}
 use Rattle.code.proofs.SectionLaws.{blocks-room, epilogue-written, no-epilogue}
 use borrow.Author.Needs.{needs}
@@ -37,23 +36,10 @@ byte-of-element-requires : tie.Need-byte-of-element-requires
 byte-of-element-requires c κs = search needs
 
 put-splice-requires : tie.Need-put-splice-requires
-put-splice-requires c κs =
-    let l = c in
-    let b = l .before .before .before .before in
-    let s = b .before .before .before .before .before .before in
-    let q = blocks-room (s .pre .0) (s .pre .1) (b .put-blocks .ensures) in
-    let n = ap (λ (x : ByteOffset). x .0) (l .byte-of-element .ensures) in
-    let m = mul-le-mul (s .pre .2) (width-most (s .args .width)) in
-    ((omega (arith, q .1), q .2), (omega (arith, q .1), omega (arith, q .1), omega arith))
+put-splice-requires c κs = search needs
 
 put-store-requires : tie.Need-put-store-requires
-put-store-requires c κs =
-    let p = c .before .before .before in
-    let b = p .before .before .before .before .before in
-    let s = b .before .before .before .before .before .before in
-    let q = blocks-room (s .pre .0) (s .pre .1) (b .put-blocks .ensures) in
-    let e = p .put-splice .ensures in
-    (omega (arith, q .1, e .rows), omega (arith, q .2, written-length e), omega (arith, q .1), s .pre .0 .address)
+put-store-requires c κs = search needs
 
 same-length : tie.Need-same-length
 same-length c = search needs
@@ -67,7 +53,8 @@ returns-2 c =
     let i = b .before .before in
     let s = i .before .before .before .before in
     let n = ap (λ (x : ByteOffset). x .0) (l .byte-of-element .ensures) in
-    epilogue-written (s .pre .0) (s .pre .1) (b .put-blocks .ensures) (widthBytes (s .args .width)) (s .args .rest .0) (i .if1 .left) n
+    epilogue-written (s .pre .0) (s .pre .1) (b .put-blocks .ensures) (widthBytes (s .args .width)) (s .args .rest .0) (i .if1 .left)
+    (mul-le-mul (s .pre .2) (width-most (s .args .width))) n
     (p .put-splice .ensures) (w .put-store .ensures)
 
 pub put-epilogue-spec : {M : Type 1} → statement M

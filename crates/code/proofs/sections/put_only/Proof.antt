@@ -4,7 +4,6 @@ use native.Mathlib.Nat.{mul-le-mul}
 use native.Mathlib.Omega.{arith}
 use Rattle.rules.specs.Units.{widthBytes}
 use Rattle.rules.specs.declared.units.ByteOffset.{ByteOffset}
-use Rattle.code.proofs.WritingLaws.{written-length}
 use Rattle.code.proofs.CountLaws.{width-most, offset-small}
 use Rattle.code.proofs.SectionLaws.{blocks-room, only-written}
 use borrow.Author.Needs.{needs}
@@ -32,12 +31,7 @@ store-offset-requires : tie.Need-store-offset-requires
 store-offset-requires c κs = search needs
 
 put-splice-requires : tie.Need-put-splice-requires
-put-splice-requires c κs =
-    let o = c .before in
-    let b = o .before .before .before in
-    let s = b .before .before .before .before in
-    let q = blocks-room (s .pre .0) (s .pre .1) (b .put-blocks .ensures) in
-    ((omega (arith, q .1), q .2), (omega (arith, q .1), omega (arith, q .1), omega (arith, o .store-offset .ensures, offset-small (s .args .store .0))))
+put-splice-requires c κs = search needs
 
 byte-of-element-requires : tie.Need-byte-of-element-requires
 byte-of-element-requires c κs = search needs
@@ -53,29 +47,10 @@ add-end c =
     omega (arith, o .store-offset .ensures)
 
 put-splice-requires-2 : tie.Need-put-splice-requires-2
-put-splice-requires-2 c κs =
-    let l = c .before .before .before in
-    let p = l .before .before .before in
-    let o = p .before .before in
-    let b = o .before .before .before in
-    let s = b .before .before .before .before in
-    let q = blocks-room (s .pre .0) (s .pre .1) (b .put-blocks .ensures) in
-    let e = p .put-splice .ensures in
-    let n = ap (λ (x : ByteOffset). x .0) (l .byte-of-element .ensures) in
-    let m = mul-le-mul (s .pre .2) (width-most (s .args .width)) in
-    let f = offset-small (s .args .store .0) in
-    ((omega (arith, q .1, e .rows), omega (arith, q .2, written-length e)), (omega (arith, q .1), omega (arith, q .1), omega (arith, o .store-offset .ensures)))
+put-splice-requires-2 c κs = search needs
 
 put-store-requires : tie.Need-put-store-requires
-put-store-requires c κs =
-    let v = c .before .before .before in
-    let p = v .before .before .before .before .before .before .before in
-    let b = p .before .before .before .before .before in
-    let s = b .before .before .before .before in
-    let q = blocks-room (s .pre .0) (s .pre .1) (b .put-blocks .ensures) in
-    let e = p .put-splice .ensures in
-    let g = v .put-splice2 .ensures in
-    (omega (arith, q .1, e .rows, g .rows), omega (arith, q .2, written-length e, written-length g), omega (arith, q .1, e .rows), s .pre .0 .address)
+put-store-requires c κs = search needs
 
 same-length : tie.Need-same-length
 same-length c = search needs
@@ -90,7 +65,8 @@ returns c =
     let b = o .before .before .before in
     let s = b .before .before .before .before in
     let n = ap (λ (x : ByteOffset). x .0) (l .byte-of-element .ensures) in
-    only-written (s .pre .0) (s .pre .1) (b .put-blocks .ensures) (o .store-offset .ensures) (widthBytes (s .args .width)) (s .args .elements .0) n
+    only-written (s .pre .0) (s .pre .1) (b .put-blocks .ensures) (o .store-offset .ensures) (widthBytes (s .args .width)) (s .args .elements .0)
+    (mul-le-mul (s .pre .2) (width-most (s .args .width))) n
     (p .put-splice .ensures) (v .put-splice2 .ensures) (w .put-store .ensures)
 
 pub put-only-spec : {M : Type 1} → statement M

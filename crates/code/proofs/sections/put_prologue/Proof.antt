@@ -1,7 +1,5 @@
 -- The old block and the new one are in the two registers before the splice.
 use native.Mathlib.Omega.{arith}
-use Rattle.code.proofs.WritingLaws.{written-length}
-use Rattle.code.proofs.CountLaws.{offset-small}
 use Rattle.code.proofs.SectionLaws.{blocks-room, prologue-written}
 use borrow.Author.Needs.{needs}
 use Rattle.code.proofs.sections.put_prologue.Statement.{statement}
@@ -28,21 +26,10 @@ store-offset-requires : tie.Need-store-offset-requires
 store-offset-requires c κs = search needs
 
 put-splice-requires : tie.Need-put-splice-requires
-put-splice-requires c κs =
-    let o = c in
-    let b = o .before .before .before .before in
-    let s = b .before .before .before .before in
-    let q = blocks-room (s .pre .0) (s .pre .1) (b .put-blocks .ensures) in
-    ((omega (arith, q .1), q .2), (omega (arith, q .1), omega (arith, q .1), omega (arith, o .store-offset .ensures, offset-small (s .args .store .0))))
+put-splice-requires c κs = search needs
 
 put-store-requires : tie.Need-put-store-requires
-put-store-requires c κs =
-    let p = c .before .before .before in
-    let b = p .before .before .before .before .before in
-    let s = b .before .before .before .before in
-    let q = blocks-room (s .pre .0) (s .pre .1) (b .put-blocks .ensures) in
-    let e = p .put-splice .ensures in
-    (omega (arith, q .1, e .rows), omega (arith, q .2, written-length e), omega (arith, q .1), s .pre .0 .address)
+put-store-requires c κs = search needs
 
 same-length : tie.Need-same-length
 same-length c = search needs

@@ -1,0 +1,23 @@
+-- The address is the load's own, moved by the blocks.
+use borrow.Author.Needs.{needs}
+use Rattle.emitting.proofs.put_load.Statement.{statement}
+use Rattle.emitting.proofs.put_load.Tie as tie
+
+low-bits-requires : tie.Need-low-bits-requires
+low-bits-requires c κs = search needs
+
+moved-requires : tie.Need-moved-requires
+moved-requires c κs = search needs
+
+put-requires : tie.Need-put-requires
+put-requires c κs = search needs
+
+same-length : tie.Need-same-length
+same-length c = search needs
+
+returns : tie.Need-returns
+returns c = rw (c .before .before .before .before .moved .ensures, c .before .before .before .before .before .low-bits .ensures) at (c .before .before .put .ensures)
+
+pub put-load-spec : {M : Type 1} → statement M
+put-load-spec =
+    tie.close (tie.spec low-bits-requires moved-requires put-requires same-length returns)
