@@ -6,10 +6,8 @@ mod splats;
 
 ghost use mathlib.Core.Path.{_≡_};
 ghost use Prim.Native.Nat.{_%_};
-ghost use lib.Dec.{ltb};
 ghost use Rattle.rules.specs.Limits.{vectorBytes};
 ghost use Rattle.rules.specs.Units.{widthBytes};
-ghost use Rattle.rules.specs.Elements.{modulus};
 ghost use Rattle.rules.specs.Vectors.{vop, vsplat, vshiftpair, vsplice};
 pub use elements::Vector;
 use rules::units::Width;
@@ -39,19 +37,6 @@ pub fn vop_eight(operation: u32, v1: Vector, v2: Vector) -> Vector
     each::eight(operation, &v1, &v2)
 }
 
-// The same at any width. A caller whose vectors lie in an array goes by the width first and copies them then: copied before,
-// they are cut into pieces of every width, and the compiler makes no vector instructions of them.
-pub fn vop(width: Width, operation: u32, v1: Vector, v2: Vector) -> Vector
-    ensures { λ r. ⌜ r ≡ vop vectorBytes (widthBytes width) operation v1 v2 ⌝ }
-{
-    match width {
-        Width::One => vop_one(operation, v1, v2),
-        Width::Two => vop_two(operation, v1, v2),
-        Width::Four => vop_four(operation, v1, v2),
-        Width::Eight => vop_eight(operation, v1, v2),
-    }
-}
-
 // The value in every element, cut to its width.
 pub fn vsplat(width: Width, value: u64) -> Vector
     ensures { λ r. ⌜ r ≡ vsplat vectorBytes (widthBytes width) value ⌝ }
@@ -71,11 +56,4 @@ pub fn vsplice(v1: Vector, v2: Vector, amount: u32) -> Vector
     ensures { λ r. ⌜ r ≡ vsplice v1 v2 amount ⌝ }
 {
     reorder::splice(v1, v2, amount)
-}
-
-// Whether a value fits an element.
-pub fn fits(width: Width, value: u64) -> bool
-    ensures { λ r. ⌜ r ≡ ltb value (modulus (widthBytes width)) ⌝ }
-{
-    splats::fits(width, value)
 }

@@ -1,9 +1,7 @@
-// A value in every element of a vector, and whether it fits one.
+// A value in every element of a vector.
 ghost use mathlib.Core.Path.{_≡_};
-ghost use lib.Dec.{ltb};
 ghost use Rattle.rules.specs.Limits.{vectorBytes};
 ghost use Rattle.rules.specs.Units.{widthBytes};
-ghost use Rattle.rules.specs.Elements.{modulus};
 ghost use Rattle.rules.specs.Vectors.{vsplat};
 use crate::elements;
 use crate::elements::EIGHTS;
@@ -13,7 +11,7 @@ use crate::elements::VECTOR_BYTES;
 use crate::elements::Vector;
 use rules::units::Width;
 
-// How many values an element has at each width; at eight bytes every u64 fits.
+// How many values an element has at each width; at eight bytes every u64 is one.
 const ONE_MODULUS: u64 = 256;
 
 const TWO_MODULUS: u64 = 65536;
@@ -28,16 +26,5 @@ pub(crate) fn splat(width: Width, value: u64) -> Vector
         Width::Two => elements::join_two([(value % TWO_MODULUS) as u16; TWOS]),
         Width::Four => elements::join_four([(value % FOUR_MODULUS) as u32; FOURS]),
         Width::Eight => elements::join_eight([value; EIGHTS]),
-    }
-}
-
-pub(crate) fn fits(width: Width, value: u64) -> bool
-    ensures { λ r. ⌜ r ≡ ltb value (modulus (widthBytes width)) ⌝ }
-{
-    match width {
-        Width::One => value < ONE_MODULUS,
-        Width::Two => value < TWO_MODULUS,
-        Width::Four => value < FOUR_MODULUS,
-        Width::Eight => true,
     }
 }
