@@ -82,7 +82,7 @@ fn do_splat(element: Element, i: Instruction, registers: &mut [[u8; 16]; 1024]) 
         return false;
     }
     let spread = value * element.ones;
-    let v = lanes::vsplat(Width::Eight, spread);
+    let v = reorder::vsplat(Width::Eight, spread);
     registers[i.destination as usize] = v;
     true
 }
@@ -153,7 +153,7 @@ fn do_pair(i: Instruction, registers: &mut [[u8; 16]; 1024]) -> bool
     if V <= i.low {
         return false;
     }
-    let v = lanes::vshiftpair(registers[i.a as usize], registers[i.b as usize], i.low);
+    let v = reorder::vshiftpair(registers[i.a as usize], registers[i.b as usize], i.low);
     registers[i.destination as usize] = v;
     true
 }
@@ -167,7 +167,7 @@ fn do_splice(i: Instruction, registers: &mut [[u8; 16]; 1024]) -> bool
     if V < i.low {
         return false;
     }
-    let v = lanes::vsplice(registers[i.a as usize], registers[i.b as usize], i.low);
+    let v = reorder::vsplice(registers[i.a as usize], registers[i.b as usize], i.low);
     registers[i.destination as usize] = v;
     true
 }
