@@ -1,2 +1,1 @@
 pub mod LaneLaws
-pub mod PairLaws

@@ -1,81 +1,153 @@
-// The vector unit's operations on vectors of sixteen bytes, by value. Every function answers for every argument.
-mod each;
-mod elements;
-mod reorder;
-mod splats;
-
+// The six operations on every pair of elements of two vectors, at four widths. Vectors go by value, and every function answers for
+// every argument. The operation is handed to a loop as a constant, so that the compiler has a loop for each of the six and makes
+// vector instructions of it. It is found in two threes: of six tests for equality in a row the compiler would make a jump
+// through a table, which costs more than a few tests.
 ghost use mathlib.Core.Path.{_≡_};
-ghost use Prim.Native.Nat.{_%_};
-ghost use lib.Dec.{ltb};
 ghost use Rattle.rules.specs.Limits.{vectorBytes};
-ghost use Rattle.rules.specs.Units.{widthBytes};
-ghost use Rattle.rules.specs.Elements.{modulus};
-ghost use Rattle.rules.specs.Vectors.{vop, vsplat, vshiftpair, vsplice};
-pub use elements::Vector;
-use rules::units::Width;
+ghost use Rattle.rules.specs.Vectors.{vop};
+use operations::ADD;
+use operations::MAXIMUM;
+use operations::MINIMUM;
+use operations::SIGNED_MAXIMUM;
+use operations::SIGNED_MINIMUM;
+use operations::SUBTRACT;
+use vectors::EIGHTS;
+use vectors::FOURS;
+use vectors::TWOS;
+use vectors::VECTOR_BYTES;
+use vectors::Vector;
+
+fn each_one<'a>(operation: u32, v1: &'a Vector, v2: &'a Vector) -> Vector
+    ensures { λ r. ⌜ r ≡ vop vectorBytes 1 operation (now (v1 .entry)) (now (v2 .entry)) ⌝ }
+{
+    let mut r = [0u8; VECTOR_BYTES];
+    for i in 0..VECTOR_BYTES {
+        let z = operations::operate_one(operation, v1[i], v2[i]);
+        r[i] = z;
+    }
+    r
+}
+
+fn each_two<'a>(operation: u32, v1: &'a Vector, v2: &'a Vector) -> Vector
+    ensures { λ r. ⌜ r ≡ vop vectorBytes 2 operation (now (v1 .entry)) (now (v2 .entry)) ⌝ }
+{
+    let mut r = [0u16; TWOS];
+    for i in 0..TWOS {
+        let x = vectors::two_at(v1, i);
+        let y = vectors::two_at(v2, i);
+        let z = operations::operate_two(operation, x, y);
+        r[i] = z;
+    }
+    vectors::join_two(r)
+}
+
+fn each_four<'a>(operation: u32, v1: &'a Vector, v2: &'a Vector) -> Vector
+    ensures { λ r. ⌜ r ≡ vop vectorBytes 4 operation (now (v1 .entry)) (now (v2 .entry)) ⌝ }
+{
+    let mut r = [0u32; FOURS];
+    for i in 0..FOURS {
+        let x = vectors::four_at(v1, i);
+        let y = vectors::four_at(v2, i);
+        let z = operations::operate_four(operation, x, y);
+        r[i] = z;
+    }
+    vectors::join_four(r)
+}
+
+fn each_eight<'a>(operation: u32, v1: &'a Vector, v2: &'a Vector) -> Vector
+    ensures { λ r. ⌜ r ≡ vop vectorBytes 8 operation (now (v1 .entry)) (now (v2 .entry)) ⌝ }
+{
+    let mut r = [0u64; EIGHTS];
+    for i in 0..EIGHTS {
+        let x = vectors::eight_at(v1, i);
+        let y = vectors::eight_at(v2, i);
+        let z = operations::operate_eight(operation, x, y);
+        r[i] = z;
+    }
+    vectors::join_eight(r)
+}
 
 // The operation on every pair of elements, at each width; above 5 it is operation 5.
 pub fn vop_one(operation: u32, v1: Vector, v2: Vector) -> Vector
     ensures { λ r. ⌜ r ≡ vop vectorBytes 1 operation v1 v2 ⌝ }
 {
-    each::one(operation, &v1, &v2)
+    if operation < MAXIMUM {
+        if operation == ADD {
+            return each_one(ADD, &v1, &v2);
+        }
+        if operation == SUBTRACT {
+            return each_one(SUBTRACT, &v1, &v2);
+        }
+        return each_one(MINIMUM, &v1, &v2);
+    }
+    if operation == MAXIMUM {
+        return each_one(MAXIMUM, &v1, &v2);
+    }
+    if operation == SIGNED_MINIMUM {
+        return each_one(SIGNED_MINIMUM, &v1, &v2);
+    }
+    each_one(SIGNED_MAXIMUM, &v1, &v2)
 }
 
 pub fn vop_two(operation: u32, v1: Vector, v2: Vector) -> Vector
     ensures { λ r. ⌜ r ≡ vop vectorBytes 2 operation v1 v2 ⌝ }
 {
-    each::two(operation, &v1, &v2)
+    if operation < MAXIMUM {
+        if operation == ADD {
+            return each_two(ADD, &v1, &v2);
+        }
+        if operation == SUBTRACT {
+            return each_two(SUBTRACT, &v1, &v2);
+        }
+        return each_two(MINIMUM, &v1, &v2);
+    }
+    if operation == MAXIMUM {
+        return each_two(MAXIMUM, &v1, &v2);
+    }
+    if operation == SIGNED_MINIMUM {
+        return each_two(SIGNED_MINIMUM, &v1, &v2);
+    }
+    each_two(SIGNED_MAXIMUM, &v1, &v2)
 }
 
 pub fn vop_four(operation: u32, v1: Vector, v2: Vector) -> Vector
     ensures { λ r. ⌜ r ≡ vop vectorBytes 4 operation v1 v2 ⌝ }
 {
-    each::four(operation, &v1, &v2)
+    if operation < MAXIMUM {
+        if operation == ADD {
+            return each_four(ADD, &v1, &v2);
+        }
+        if operation == SUBTRACT {
+            return each_four(SUBTRACT, &v1, &v2);
+        }
+        return each_four(MINIMUM, &v1, &v2);
+    }
+    if operation == MAXIMUM {
+        return each_four(MAXIMUM, &v1, &v2);
+    }
+    if operation == SIGNED_MINIMUM {
+        return each_four(SIGNED_MINIMUM, &v1, &v2);
+    }
+    each_four(SIGNED_MAXIMUM, &v1, &v2)
 }
 
 pub fn vop_eight(operation: u32, v1: Vector, v2: Vector) -> Vector
     ensures { λ r. ⌜ r ≡ vop vectorBytes 8 operation v1 v2 ⌝ }
 {
-    each::eight(operation, &v1, &v2)
-}
-
-// The same at any width. A caller whose vectors lie in an array goes by the width first and copies them then: copied before,
-// they are cut into pieces of every width, and the compiler makes no vector instructions of them.
-pub fn vop(width: Width, operation: u32, v1: Vector, v2: Vector) -> Vector
-    ensures { λ r. ⌜ r ≡ vop vectorBytes (widthBytes width) operation v1 v2 ⌝ }
-{
-    match width {
-        Width::One => vop_one(operation, v1, v2),
-        Width::Two => vop_two(operation, v1, v2),
-        Width::Four => vop_four(operation, v1, v2),
-        Width::Eight => vop_eight(operation, v1, v2),
+    if operation < MAXIMUM {
+        if operation == ADD {
+            return each_eight(ADD, &v1, &v2);
+        }
+        if operation == SUBTRACT {
+            return each_eight(SUBTRACT, &v1, &v2);
+        }
+        return each_eight(MINIMUM, &v1, &v2);
     }
-}
-
-// The value in every element, cut to its width.
-pub fn vsplat(width: Width, value: u64) -> Vector
-    ensures { λ r. ⌜ r ≡ vsplat vectorBytes (widthBytes width) value ⌝ }
-{
-    splats::splat(width, value)
-}
-
-// Sixteen bytes of the two joined, from the amount modulo 16 on.
-pub fn vshiftpair(v1: Vector, v2: Vector, amount: u32) -> Vector
-    ensures { λ r. ⌜ r ≡ vshiftpair vectorBytes v1 v2 (amount % vectorBytes) ⌝ }
-{
-    reorder::shift_pair(v1, v2, amount)
-}
-
-// The first bytes of v1, as many as the amount says, and the rest of v2; from 16 on all of v1.
-pub fn vsplice(v1: Vector, v2: Vector, amount: u32) -> Vector
-    ensures { λ r. ⌜ r ≡ vsplice v1 v2 amount ⌝ }
-{
-    reorder::splice(v1, v2, amount)
-}
-
-// Whether a value fits an element.
-pub fn fits(width: Width, value: u64) -> bool
-    ensures { λ r. ⌜ r ≡ ltb value (modulus (widthBytes width)) ⌝ }
-{
-    splats::fits(width, value)
+    if operation == MAXIMUM {
+        return each_eight(MAXIMUM, &v1, &v2);
+    }
+    if operation == SIGNED_MINIMUM {
+        return each_eight(SIGNED_MINIMUM, &v1, &v2);
+    }
+    each_eight(SIGNED_MAXIMUM, &v1, &v2)
 }

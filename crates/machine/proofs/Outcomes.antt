@@ -16,8 +16,8 @@ use Rattle.rules.specs.declared.program.ProgramHead.{ProgramHead}
 use Rattle.theory.proofs.AnswerLaws.{run-told-apart}
 use Rattle.theory.proofs.Trace.{made, length-trace}
 use Rattle.theory.proofs.Demands.{unstarted-keeps-work, running-cut}
+use Rattle.start.proofs.ReadyLaws.{ready}
 use Rattle.machine.specs.Running.{ran}
-use Rattle.machine.proofs.PassLaws.{ready}
 
 length-rows : (section : List ℕ) (i n : ℕ) → length (instructionsFrom section i n) ≡ n
 length-rows section i zero = refl

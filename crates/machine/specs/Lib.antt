@@ -1,4 +1,2 @@
-pub mod Places
-pub mod Trying
 pub mod Running
 pub mod Spreading

@@ -1,72 +1,24 @@
-// One instruction in one pass (document 01, "Vector code"): each kind in its own function, and one that picks by the kind.
-// False is a FAULT, and then nothing is changed.
-use crate::blocks::Place;
-use crate::blocks::load;
-use crate::blocks::place_of;
-use crate::blocks::store;
+// One instruction in one pass (document 01, "Vector code"), picked by its kind, and the splat, which goes by what its section found
+// of an element. False is a FAULT, and then nothing is changed.
 use crate::elements::Element;
+use kinds::REGISTERS;
 use rules::program::Instruction;
 use rules::units::VectorNumber;
 use rules::units::Width;
 ghost use mathlib.Core.Path.{_≡_};
-ghost use mathlib.Core.List.{[]};
-ghost use Prim.Native.Nat.{_≤_, _<_};
-ghost use Rattle.rules.specs.Limits.{vectorBytes, fullMost, registers};
 ghost use Rattle.rules.specs.Units.{widthBytes};
-ghost use Rattle.rules.specs.Frames.{loadKind, splatKind, opKind};
-ghost use Rattle.rules.specs.Machine.{pairKind, spliceKind, storeKind, splatValue};
-ghost use Rattle.machine.specs.Trying.{tried, tryAs, Tries, anyWidth, registersKnown, operated};
+ghost use Rattle.rules.specs.Frames.{splatKind};
+ghost use Rattle.rules.specs.Machine.{splatValue};
+ghost use Rattle.kinds.specs.Trying.{tried, tryAs, Tries};
 ghost use Rattle.machine.specs.Spreading.{Spreads};
-
-const REGISTERS: u32 = 1024;
-
-const WINDOWS: u32 = 2;
-
-const OPERATIONS: u32 = 6;
-
-const V: u32 = 16;
 
 // 2^32: what one unit of a splat's high half counts.
 const LOW_VALUES: u64 = 4294967296;
-
-// Whether the three registers of an instruction on two vectors are there.
-fn registers_known(i: Instruction) -> bool
-    ensures { λ r. ⌜ r ≡ registersKnown i ⌝ }
-{
-    if REGISTERS <= i.destination {
-        return false;
-    }
-    if REGISTERS <= i.a {
-        return false;
-    }
-    i.b < REGISTERS
-}
 
 fn splat_value(i: Instruction) -> u64
     ensures { λ r. ⌜ r ≡ splatValue i ⌝ }
 {
     (i.low as u64) + LOW_VALUES * (i.high as u64)
-}
-
-fn do_load<'a>(
-    i: Instruction,
-    pass: VectorNumber,
-    registers: &mut [[u8; 16]; 1024],
-    work: &'a [u8],
-    table: &'a [u8],
-) -> bool
-    requires { ⌜ pass .0 ≤ fullMost vectorBytes ⌝ }
-    ensures { λ r. ⌜ tried r (now (registers .exit)) (now (work .entry)) ≡ tryAs loadKind anyWidth (now (table .entry)) (pass .0) i (now (registers .entry)) (now (work .entry)) ⌝ }
-{
-    if REGISTERS <= i.destination {
-        return false;
-    }
-    if WINDOWS <= i.a {
-        return false;
-    }
-    let v = load(work, table, i.a, i.low, pass);
-    registers[i.destination as usize] = v;
-    true
 }
 
 // One product is the value in every element of eight bytes, whatever the width.
@@ -82,116 +34,9 @@ fn do_splat(element: Element, i: Instruction, registers: &mut [[u8; 16]; 1024]) 
         return false;
     }
     let spread = value * element.ones;
-    let v = lanes::vsplat(Width::Eight, spread);
+    let v = reorder::vsplat(Width::Eight, spread);
     registers[i.destination as usize] = v;
     true
-}
-
-// The width is gone by before the registers are copied, and each width writes its own result: each copy is then read at one width
-// only, and no result is put together from the pieces of four.
-fn op_narrow(width: Width, i: Instruction, file: &mut [[u8; 16]; 1024])
-    requires { ⌜ (i .destination < registers) × (i .a < registers) × (i .b < registers) × (widthBytes width ≤ 2) ⌝ }
-    ensures { λ _. ⌜ now (file .exit) ≡ operated (widthBytes width) i (now (file .entry)) ⌝ }
-{
-    let d = i.destination as usize;
-    let a = i.a as usize;
-    let b = i.b as usize;
-    match width {
-        Width::One => {
-            let v = lanes::vop_one(i.low, file[a], file[b]);
-            file[d] = v;
-        }
-        _ => {
-            let v = lanes::vop_two(i.low, file[a], file[b]);
-            file[d] = v;
-        }
-    }
-}
-
-fn op_wide(width: Width, i: Instruction, file: &mut [[u8; 16]; 1024])
-    requires { ⌜ (i .destination < registers) × (i .a < registers) × (i .b < registers) × (4 ≤ widthBytes width) ⌝ }
-    ensures { λ _. ⌜ now (file .exit) ≡ operated (widthBytes width) i (now (file .entry)) ⌝ }
-{
-    let d = i.destination as usize;
-    let a = i.a as usize;
-    let b = i.b as usize;
-    match width {
-        Width::Four => {
-            let v = lanes::vop_four(i.low, file[a], file[b]);
-            file[d] = v;
-        }
-        _ => {
-            let v = lanes::vop_eight(i.low, file[a], file[b]);
-            file[d] = v;
-        }
-    }
-}
-
-// By halves: of four widths the compiler would make a jump through a table, which costs more than two tests.
-fn do_op(width: Width, i: Instruction, registers: &mut [[u8; 16]; 1024]) -> bool
-    ensures { λ r. ⌜ Tries opKind (widthBytes width) i r (now (registers .entry)) (now (registers .exit)) ⌝ }
-{
-    if !registers_known(i) {
-        return false;
-    }
-    if OPERATIONS <= i.low {
-        return false;
-    }
-    match width {
-        Width::One | Width::Two => op_narrow(width, i, registers),
-        Width::Four | Width::Eight => op_wide(width, i, registers),
-    }
-    true
-}
-
-fn do_pair(i: Instruction, registers: &mut [[u8; 16]; 1024]) -> bool
-    ensures { λ r. ⌜ Tries pairKind anyWidth i r (now (registers .entry)) (now (registers .exit)) ⌝ }
-{
-    if !registers_known(i) {
-        return false;
-    }
-    if V <= i.low {
-        return false;
-    }
-    let v = lanes::vshiftpair(registers[i.a as usize], registers[i.b as usize], i.low);
-    registers[i.destination as usize] = v;
-    true
-}
-
-fn do_splice(i: Instruction, registers: &mut [[u8; 16]; 1024]) -> bool
-    ensures { λ r. ⌜ Tries spliceKind anyWidth i r (now (registers .entry)) (now (registers .exit)) ⌝ }
-{
-    if !registers_known(i) {
-        return false;
-    }
-    if V < i.low {
-        return false;
-    }
-    let v = lanes::vsplice(registers[i.a as usize], registers[i.b as usize], i.low);
-    registers[i.destination as usize] = v;
-    true
-}
-
-fn do_store(
-    i: Instruction,
-    pass: VectorNumber,
-    registers: &[[u8; 16]; 1024],
-    work: &mut [u8],
-) -> bool
-    requires { ⌜ pass .0 ≤ fullMost vectorBytes ⌝ }
-    ensures { λ r. ⌜ tried r (now (registers .entry)) (now (work .exit)) ≡ tryAs storeKind anyWidth [] (pass .0) i (now (registers .entry)) (now (work .entry)) ⌝ }
-{
-    if REGISTERS <= i.a {
-        return false;
-    }
-    let place = place_of(i.low, pass, work.len());
-    match place {
-        Place::Inside(start) => {
-            store(work, start, registers[i.a as usize]);
-            true
-        }
-        Place::Outside => false,
-    }
 }
 
 pub(crate) fn act(
@@ -202,18 +47,18 @@ pub(crate) fn act(
     work: &mut [u8],
     table: &[u8],
 ) -> bool
-    requires { ⌜ Spreads element × (pass .0 ≤ fullMost vectorBytes) ⌝ }
+    requires { ⌜ Spreads element ⌝ }
     ensures { λ r. ⌜ tried r (now (registers .exit)) (now (work .exit)) ≡ tryAs (i .kind) (widthBytes (element .width)) (now (table .entry)) (pass .0) i (now (registers .entry)) (now (work .entry)) ⌝ }
 {
     let width = element.width;
     let kind = i.kind;
     match kind {
-        1 => do_load(i, pass, registers, work, table),
+        1 => kinds::do_load(i, pass, registers, work, table),
         2 => do_splat(element, i, registers),
-        3 => do_op(width, i, registers),
-        4 => do_pair(i, registers),
-        5 => do_splice(i, registers),
-        6 => do_store(i, pass, registers, work),
+        3 => kinds::do_op(width, i, registers),
+        4 => kinds::do_pair(i, registers),
+        5 => kinds::do_splice(i, registers),
+        6 => kinds::do_store(i, pass, registers, work),
         _ => false,
     }
 }

@@ -1,13 +1,11 @@
 // The vector machine (document 01, "Vector code"): it runs any program that anybody hands it, and gives one fixed answer.
-mod blocks;
 mod elements;
 mod instructions;
 mod passes;
-mod start;
 
-use crate::start::Start;
 use rules::answers::RunAnswer;
 use rules::program::ProgramHead;
+use start::Start;
 ghost use mathlib.Core.Path.{_≡_};
 ghost use Rattle.rules.specs.Limits.{vectorBytes};
 ghost use Rattle.rules.specs.Calls.{running};

@@ -10,13 +10,13 @@ use rules::units::Width;
 ghost use mathlib.Core.Path.{_≡_};
 ghost use Prim.Native.Nat.{_+_, _*_, _-_, _≤_};
 ghost use lib.ListN.{length};
-ghost use Rattle.rules.specs.Limits.{vectorBytes, fullMost, instructionEntries};
+ghost use Rattle.rules.specs.Limits.{vectorBytes, instructionEntries};
 ghost use Rattle.rules.specs.Units.{widthBytes};
 ghost use Rattle.rules.specs.Answers.{DONE};
 ghost use Rattle.rules.specs.Machine.{instructionAt, instructionsFrom, inPass, passes, trace, standing, runs, start};
 ghost use Rattle.rules.specs.Tables.{programIn};
 ghost use Rattle.rules.specs.Calls.{ended};
-ghost use Rattle.machine.specs.Trying.{state};
+ghost use Rattle.kinds.specs.Trying.{state};
 ghost use Rattle.machine.specs.Running.{stood, ran};
 
 const INSTRUCTION_ENTRIES: usize = 6;
@@ -53,7 +53,7 @@ fn section_pass(
     work: &mut [u8],
     table: &[u8],
 ) -> RunAnswer
-    requires { ⌜ (instructionEntries * rows ≤ length (now section)) × (pass .0 ≤ fullMost vectorBytes) ⌝ }
+    requires { ⌜ instructionEntries * rows ≤ length (now section) ⌝ }
     ensures { λ r. ⌜ stood r (now (registers .exit)) (now (work .exit)) ≡ runs vectorBytes (widthBytes (run .width)) (now (table .entry)) (run .budget) (standing DONE (run .steps) (state (now (registers .entry)) (now (work .entry)))) (inPass (pass .0) (instructionsFrom (now (section .entry)) 0 rows)) ⌝ }
 {
     let width = run.width;
@@ -86,7 +86,7 @@ fn body_passes(
     work: &mut [u8],
     table: &[u8],
 ) -> RunAnswer
-    requires { ⌜ (instructionEntries * rows ≤ length (now body)) × (f ≤ fullMost vectorBytes) ⌝ }
+    requires { ⌜ instructionEntries * rows ≤ length (now body) ⌝ }
     ensures { λ r. ⌜ stood r (now (registers .exit)) (now (work .exit)) ≡ runs vectorBytes (widthBytes (run .width)) (now (table .entry)) (run .budget) (standing DONE (run .steps) (state (now (registers .entry)) (now (work .entry)))) (passes (f - 1) 1 (instructionsFrom (now (body .entry)) 0 rows)) ⌝ }
 {
     let width = run.width;
@@ -124,7 +124,7 @@ pub(crate) fn sections(
     work: &mut [u8],
     table: &[u8],
 ) -> RunAnswer
-    requires { ⌜ (instructionEntries * head .prologue ≤ length (now prologue)) × (instructionEntries * head .body ≤ length (now body)) × (instructionEntries * head .epilogue ≤ length (now epilogue)) × (head .f ≤ fullMost vectorBytes) ⌝ }
+    requires { ⌜ (instructionEntries * head .prologue ≤ length (now prologue)) × (instructionEntries * head .body ≤ length (now body)) × (instructionEntries * head .epilogue ≤ length (now epilogue)) ⌝ }
     ensures { λ r. ⌜ ran r (now (work .exit)) ≡ ended (runs vectorBytes (widthBytes width) (now (table .entry)) budget (start vectorBytes (now (work .entry))) (trace (programIn head (now (prologue .entry)) (now (body .entry)) (now (epilogue .entry))))) ⌝ }
 {
     let mut file = [[0u8; 16]; 1024];

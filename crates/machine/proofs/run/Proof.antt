@@ -1,5 +1,7 @@
+-- `run`: refused at the start, or the three sections.
 use Rattle.rules.specs.Units.{widthBytes}
-use Rattle.machine.proofs.PassLaws.{ready, run-goes, run-refused}
+use Rattle.start.proofs.ReadyLaws.{ready}
+use Rattle.machine.proofs.PassLaws.{run-goes, run-refused}
 use borrow.Author.Needs.{needs}
 use Rattle.machine.proofs.run.Statement.{statement}
 use Rattle.machine.proofs.run.Tie as tie
@@ -17,7 +19,7 @@ sections-requires c κs =
     let a = b .before .before .before .before .before .before .before .args in
     let e = rw (g .found .given .1) at (b .begin .ensures .0) in
     let r = ready (a .head) (a .prologue .now) (a .body .now) (a .epilogue .now) (a .work .now) (a .table .now) e in
-    (r .prologue-fits, r .body-fits, r .epilogue-fits, r .full-fits)
+    (r .prologue-fits, r .body-fits, r .epilogue-fits)
 
 enum-known-found-2 : tie.Need-enum-known-found-2
 enum-known-found-2 c = search needs

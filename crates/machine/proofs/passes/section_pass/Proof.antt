@@ -8,7 +8,7 @@ use Rattle.rules.specs.Limits.{vectorBytes}
 use Rattle.rules.specs.Units.{widthBytes}
 use Rattle.rules.specs.Answers.{DONE}
 use Rattle.rules.specs.Machine.{instructionsFrom, inPass, standing, runs}
-use Rattle.machine.specs.Trying.{state}
+use Rattle.kinds.specs.Trying.{state}
 use Rattle.machine.proofs.PassLaws.{rows-none, out-first, fault-first, step-first}
 use Rattle.machine.proofs.passes.section_pass.Statement.{statement}
 use Rattle.machine.proofs.passes.section_pass.Tie as tie
@@ -48,7 +48,7 @@ instruction-at-requires : tie.Need-instruction-at-requires Inv-loop μ-loop
 instruction-at-requires c κs = search needs
 
 act-requires : tie.Need-act-requires Inv-loop μ-loop
-act-requires c κs = (c .before .before .before .before .before .before .element-of .ensures .1, search needs)
+act-requires c κs = c .before .before .before .before .before .before .element-of .ensures .1
 
 add-steps : tie.Need-add-steps Inv-loop μ-loop
 add-steps c = search needs

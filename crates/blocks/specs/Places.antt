@@ -1,0 +1,10 @@
+-- Where a block lies in a window of so many bytes: what the load rule and the store rule share.
+use Prim.Native.Nat.{ℕ, _-_, _*_}
+use mathlib.Core.Bool.{cond}
+use Rattle.rules.specs.Trees.{bytes}
+use Rattle.rules.specs.Vectors.{blockZero, inside}
+use Rattle.blocks.specs.declared.Place.{Place}
+use Rattle.blocks.specs.declared.Place.the-variants.{Inside, Outside}
+
+abbrev pub placeOf : (W len block : ℕ) → Place
+placeOf W len block = cond (inside W len block) (Inside (bytes (W * (block - blockZero W)))) Outside
