@@ -18,8 +18,8 @@ use Rattle.rules.specs.declared.sheet.LineStep.the-variants.{Stop}
 use Rattle.rules.specs.declared.sheet.Fields.{Fields}
 use Rattle.rules.specs.declared.sheet.Frame.{Frame}
 use Rattle.rules.specs.declared.sheet.Frame.the-variants.{Bad, Is}
-use Rattle.sheet.specs.Numbers.{digitOr, short, numberAt}
-use Rattle.sheet.specs.Headers.{joined, headerOf, laterOf}
+use Rattle.sheet.specs.Numbers.{digitOr, short, numberAt, joined}
+use Rattle.sheet.specs.Headers.{headerOf, laterOf}
 use Rattle.sheet.specs.declared.digits.Spelling.{Spelling}
 use Rattle.sheet.specs.declared.digits.Spelling.the-variants.{Number, Broken}
 use Rattle.sheet.proofs.DigitLaws.{Digit, digit-is, no-digit, zero-digit, zero-counts, digit-past-0, short-split, two, first-of-two, second-broken, spelled-two, number-is, number-broken, spelt, broken}
@@ -152,12 +152,20 @@ module _ (text : List ℕ) (at : ℕ) where
           ap laterOf (kind-unknown text at kind (sym e) (omega (arith, s .1, spelled-two text at, most)))
 
   -- and one that does
-  pub kind-digit : (kind : ℕ) → getD text at 0 ≡ 48 → kind ≡ digitOr (getD text (at + 1) 0) → (kind ≡ 16 → ⊥)
+  kind-digit : (kind : ℕ) → getD text at 0 ≡ 48 → kind ≡ digitOr (getD text (at + 1) 0) → (kind ≡ 16 → ⊥)
       → Number kind ≡ numberAt text at 2
   kind-digit kind first e ne =
       let d : Digit (getD text (at + 1) 0) = digit-is _ (λ z. ne (e ∙ z)) in
       let value : spelled text at 2 ≡ kind = spelled-two text at ∙ rw (first, zero-counts, ← d .counts, ← e) (omega arith) in
       rw value at (number-is text at 2 (two text at (rw first zero-digit) (d .is)))
+
+  known-digit : (kind : ℕ) → getD text at 0 ≡ 48 → kind ≡ digitOr (getD text (at + 1) 0) → kind ≤ endKind
+      → Number kind ≡ numberAt text at 2
+  known-digit kind first e h = kind-digit kind first e (λ z. absurd (omega arith))
+
+  pub kind-digits : (kind : ℕ) → getD text at 0 ≡ 48 → kind ≡ digitOr (getD text (at + 1) 0) → kind ≤ endKind
+      → short text at 2 ≡ false
+  kind-digits kind first e h = spelt text at 2 kind (known-digit kind first e h) .0
 
   own-frame : (kind : ℕ) (w : FieldDigits) → (kind ≡ 0 → ⊥) → frameOf text at kind w ≡ laterOf (frameOf text at kind w)
   unfolding frameOf
@@ -169,10 +177,10 @@ module _ (text : List ℕ) (at : ℕ) where
       go false true = rw (ne-eqb kind 0 ne)
       go false false = refl
 
-  pub later-known : (kind : ℕ) → Number kind ≡ numberAt text at 2 → kind ≤ endKind → (kind ≡ 0 → ⊥)
+  pub later-known : (kind : ℕ) → getD text at 0 ≡ 48 → kind ≡ digitOr (getD text (at + 1) 0) → kind ≤ endKind → (kind ≡ 0 → ⊥)
       → (frame : Frame) → frame ≡ frameOf text at kind (fieldDigits kind) → frame ≡ later
-  later-known kind e h ne frame f =
-      f ∙ own-frame kind (fieldDigits kind) ne ∙ ap laterOf (kind-known text at kind e h _ refl)
+  later-known kind first e h ne frame f =
+      f ∙ own-frame kind (fieldDigits kind) ne ∙ ap laterOf (kind-known text at kind (known-digit kind first e h) h _ refl)
 
   header-left : (w : FieldDigits) → Bad ≡ laterOf (frameOf text at 0 w)
   unfolding frameOf

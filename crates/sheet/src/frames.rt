@@ -13,8 +13,8 @@ ghost use Prim.Native.Nat.{_<_};
 ghost use lib.ListN.{getD};
 ghost use lib.Dec.{eqb};
 ghost use Rattle.rules.specs.Frames.{loadKind, splatKind, shiftKind, digits, fieldDigits, frameOf, frameAt};
-ghost use Rattle.sheet.specs.Numbers.{short, textMost};
-ghost use Rattle.sheet.specs.Headers.{joined, headerOf, laterOf};
+ghost use Rattle.sheet.specs.Numbers.{short, joined, textMost};
+ghost use Rattle.sheet.specs.Headers.{headerOf, laterOf};
 
 const HEADER_KIND: u64 = 0;
 
@@ -61,7 +61,7 @@ fn ended(text: &[u8], end: usize) -> bool
 }
 
 // A frame whose line is ended, of its fields as they are spelled.
-fn frame_of(kind: u64, x: Spelling, y: Spelling, z: Spelling, next: u64) -> Frame
+fn joined(kind: u64, x: Spelling, y: Spelling, z: Spelling, next: u64) -> Frame
     ensures { λ r. ⌜ r ≡ joined kind x y z next ⌝ }
 {
     let Spelling::Number(first) = x else {
@@ -95,7 +95,7 @@ fn load_frame(text: &[u8], at: usize) -> Frame
     let x = two_digits(text, at + X_AT);
     let y = four_digits(text, at + Y_AT);
     let next = end as u64 + 1;
-    frame_of(LOAD_KIND, x, y, Spelling::Number(0), next)
+    joined(LOAD_KIND, x, y, Spelling::Number(0), next)
 }
 
 // 02: value.
@@ -110,7 +110,7 @@ fn splat_frame(text: &[u8], at: usize) -> Frame
     }
     let x = number(text, at + X_AT, VALUE_BYTES);
     let next = end as u64 + 1;
-    frame_of(
+    joined(
         SPLAT_KIND,
         x,
         Spelling::Number(0),
@@ -131,7 +131,7 @@ fn byte_frame(text: &[u8], at: usize, kind: u64) -> Frame
     }
     let x = two_digits(text, at + X_AT);
     let next = end as u64 + 1;
-    frame_of(kind, x, Spelling::Number(0), Spelling::Number(0), next)
+    joined(kind, x, Spelling::Number(0), Spelling::Number(0), next)
 }
 
 // 04: from and to.
@@ -147,7 +147,7 @@ fn shift_frame(text: &[u8], at: usize) -> Frame
     let x = two_digits(text, at + X_AT);
     let y = two_digits(text, at + Y_AT);
     let next = end as u64 + 1;
-    frame_of(SHIFT_KIND, x, y, Spelling::Number(0), next)
+    joined(SHIFT_KIND, x, y, Spelling::Number(0), next)
 }
 
 // A frame on a line after the first, which no header is. No kind's first digit is another than 0, and what is no digit counts as 16.
@@ -190,5 +190,5 @@ pub(crate) fn header_frame(text: &[u8]) -> Frame
     let y = four_digits(text, Y_AT);
     let z = four_digits(text, Z_AT);
     let next = HEADER_DIGITS as u64 + 1;
-    frame_of(HEADER_KIND, x, y, z, next)
+    joined(HEADER_KIND, x, y, z, next)
 }

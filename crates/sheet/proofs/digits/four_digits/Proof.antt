@@ -1,7 +1,7 @@
 -- Both bytes are of digits, or one is broken.
 use borrow.Author.Needs.{needs}
 use native.Mathlib.Omega.{arith}
-use mathlib.Core.Path.{_≡_, sym, _∙_}
+use mathlib.Core.Path.{sym, _∙_}
 use mathlib.Core.Bool.{or-true}
 use Prim.Native.Nat.{_+_}
 use Rattle.sheet.proofs.DigitLaws.{short-split, spelled-more, spelled-most, number-is, number-broken, spelt, broken}

@@ -33,15 +33,15 @@ two-digits-requires c κs =
 add-next : tie.Need-add-next
 add-next c = search needs
 
-frame-of-requires : tie.Need-frame-of-requires
-frame-of-requires c κs = search needs
+joined-requires : tie.Need-joined-requires
+joined-requires c κs = search needs
 
 returns-2 : tie.Need-returns-2
 returns-2 c =
     let fed = c .before .before in
     let entry = fed .before .before .before in
     let a = entry .args in
-    c .frame-of .ensures
+    c .joined .ensures
     ∙ joins (a .text .now) (a .at) (a .kind) (digits 2 0 0) _ _ _ _ _ _ (entry .pre .1)
     (sym (fed .before .ended .ensures) ∙ not-false _ (fed .if1 .left)) (omega arith) (c .before .two-digits .ensures)
     refl (nothing (a .text .now) _) refl (nothing (a .text .now) _)
@@ -56,5 +56,5 @@ byte-frame-spec =
     add-two-digits
     two-digits-requires
     add-next
-    frame-of-requires
+    joined-requires
     returns-2)

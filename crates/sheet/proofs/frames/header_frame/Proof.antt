@@ -64,8 +64,8 @@ four-digits-requires-2 c κs =
 add-next : tie.Need-add-next
 add-next c = search needs
 
-frame-of-requires : tie.Need-frame-of-requires
-frame-of-requires c κs = search needs
+joined-requires : tie.Need-joined-requires
+joined-requires c κs = search needs
 
 returns-4 : tie.Need-returns-4
 unfolding fieldDigits
@@ -79,7 +79,7 @@ returns-4 c =
     let z = c .before in
     let y = z .before in
     let x = y .before in
-    c .frame-of .ensures
+    c .joined .ensures
     ∙ header-joined text zero (x .two-digits2 .result) (y .four-digits .result) (z .four-digits2 .result) 13
     (joins text 0 0 (fieldDigits 0) _ _ _ _ _ _ (spelt text 0 2 0 zero .0)
     (sym (fed .before .ended .ensures) ∙ not-false _ (fed .if1 .left)) refl (x .two-digits2 .ensures) refl (y .four-digits .ensures)
@@ -100,5 +100,5 @@ header-frame-spec =
     four-digits-requires
     four-digits-requires-2
     add-next
-    frame-of-requires
+    joined-requires
     returns-4)

@@ -1,10 +1,9 @@
 -- The kind byte past the end, not of a kind, or by its second digit.
 use borrow.Author.Needs.{needs}
 use native.Mathlib.Omega.{arith}
-use mathlib.Core.Path.{_≡_, sym, _∙_}
+use mathlib.Core.Path.{sym, _∙_}
 use Rattle.rules.specs.Frames.{fieldDigits}
-use Rattle.sheet.proofs.DigitLaws.{spelt}
-use Rattle.sheet.proofs.FrameLaws.{later-past, later-unknown, kind-digit, later-known, later-other}
+use Rattle.sheet.proofs.FrameLaws.{later-past, later-unknown, kind-digits, later-known, later-other}
 use Rattle.sheet.proofs.frames.later_frame.Statement.{statement}
 use Rattle.sheet.proofs.frames.later_frame.Tie as tie
 
@@ -33,95 +32,75 @@ load-frame-requires c κs =
     let d = c .before in
     let zero = d .before .before in
     let entry = zero .before .before .before .before in
-    let a = entry .args in
-    let kind = kind-digit (a .text .now) (a .at) 1 (zero .if2 .left) (sym (c .match .keys1) ∙ d .digit .ensures) (λ z. absurd (omega arith)) in
-    (entry .pre, spelt (a .text .now) (a .at) 2 1 kind .0)
+    (entry .pre, kind-digits _ _ 1 (zero .if2 .left) (sym (c .match .keys1) ∙ d .digit .ensures) (omega arith))
 
 splat-frame-requires : tie.Need-splat-frame-requires
 splat-frame-requires c κs =
     let d = c .before in
     let zero = d .before .before in
     let entry = zero .before .before .before .before in
-    let a = entry .args in
-    let kind = kind-digit (a .text .now) (a .at) 2 (zero .if2 .left) (sym (c .match .keys2) ∙ d .digit .ensures) (λ z. absurd (omega arith)) in
-    (entry .pre, spelt (a .text .now) (a .at) 2 2 kind .0)
+    (entry .pre, kind-digits _ _ 2 (zero .if2 .left) (sym (c .match .keys2) ∙ d .digit .ensures) (omega arith))
 
 byte-frame-requires : tie.Need-byte-frame-requires
 byte-frame-requires c κs =
     let d = c .before in
     let zero = d .before .before in
     let entry = zero .before .before .before .before in
-    let a = entry .args in
-    let kind = kind-digit (a .text .now) (a .at) 3 (zero .if2 .left) (sym (c .match .keys3) ∙ d .digit .ensures) (λ z. absurd (omega arith)) in
-    (entry .pre, spelt (a .text .now) (a .at) 2 3 kind .0)
+    (entry .pre, kind-digits _ _ 3 (zero .if2 .left) (sym (c .match .keys3) ∙ d .digit .ensures) (omega arith))
 
 shift-frame-requires : tie.Need-shift-frame-requires
 shift-frame-requires c κs =
     let d = c .before in
     let zero = d .before .before in
     let entry = zero .before .before .before .before in
-    let a = entry .args in
-    let kind = kind-digit (a .text .now) (a .at) 4 (zero .if2 .left) (sym (c .match .keys4) ∙ d .digit .ensures) (λ z. absurd (omega arith)) in
-    (entry .pre, spelt (a .text .now) (a .at) 2 4 kind .0)
+    (entry .pre, kind-digits _ _ 4 (zero .if2 .left) (sym (c .match .keys4) ∙ d .digit .ensures) (omega arith))
 
 byte-frame-requires-2 : tie.Need-byte-frame-requires-2
 byte-frame-requires-2 c κs =
     let d = c .before in
     let zero = d .before .before in
     let entry = zero .before .before .before .before in
-    let a = entry .args in
-    let kind = kind-digit (a .text .now) (a .at) 5 (zero .if2 .left) (sym (c .match .keys5) ∙ d .digit .ensures) (λ z. absurd (omega arith)) in
-    (entry .pre, spelt (a .text .now) (a .at) 2 5 kind .0)
+    (entry .pre, kind-digits _ _ 5 (zero .if2 .left) (sym (c .match .keys5) ∙ d .digit .ensures) (omega arith))
 
 returns-3 : tie.Need-returns-3
 unfolding fieldDigits
 returns-3 c =
     let m = c .before in
     let d = m .before in
-    let zero = d .before .before in
-    let a = zero .before .before .before .before .args in
-    let kind = kind-digit (a .text .now) (a .at) 1 (zero .if2 .left) (sym (m .match .keys1) ∙ d .digit .ensures) (λ z. absurd (omega arith)) in
-    later-known (a .text .now) (a .at) 1 kind (omega arith) (λ z. absurd (omega arith)) _ (c .load-frame .ensures)
+    later-known _ _ 1 (d .before .before .if2 .left) (sym (m .match .keys1) ∙ d .digit .ensures) (omega arith)
+    (λ z. absurd (omega arith)) _ (c .load-frame .ensures)
 
 returns-4 : tie.Need-returns-4
 unfolding fieldDigits
 returns-4 c =
     let m = c .before in
     let d = m .before in
-    let zero = d .before .before in
-    let a = zero .before .before .before .before .args in
-    let kind = kind-digit (a .text .now) (a .at) 2 (zero .if2 .left) (sym (m .match .keys2) ∙ d .digit .ensures) (λ z. absurd (omega arith)) in
-    later-known (a .text .now) (a .at) 2 kind (omega arith) (λ z. absurd (omega arith)) _ (c .splat-frame .ensures)
+    later-known _ _ 2 (d .before .before .if2 .left) (sym (m .match .keys2) ∙ d .digit .ensures) (omega arith)
+    (λ z. absurd (omega arith)) _ (c .splat-frame .ensures)
 
 returns-5 : tie.Need-returns-5
 unfolding fieldDigits
 returns-5 c =
     let m = c .before in
     let d = m .before in
-    let zero = d .before .before in
-    let a = zero .before .before .before .before .args in
-    let kind = kind-digit (a .text .now) (a .at) 3 (zero .if2 .left) (sym (m .match .keys3) ∙ d .digit .ensures) (λ z. absurd (omega arith)) in
-    later-known (a .text .now) (a .at) 3 kind (omega arith) (λ z. absurd (omega arith)) _ (rw (m .match .keys3) at (c .byte-frame .ensures))
+    later-known _ _ 3 (d .before .before .if2 .left) (sym (m .match .keys3) ∙ d .digit .ensures) (omega arith)
+    (λ z. absurd (omega arith)) _ (rw (m .match .keys3) at (c .byte-frame .ensures))
 
 returns-6 : tie.Need-returns-6
 unfolding fieldDigits
 returns-6 c =
     let m = c .before in
     let d = m .before in
-    let zero = d .before .before in
-    let a = zero .before .before .before .before .args in
-    let kind = kind-digit (a .text .now) (a .at) 4 (zero .if2 .left) (sym (m .match .keys4) ∙ d .digit .ensures) (λ z. absurd (omega arith)) in
-    later-known (a .text .now) (a .at) 4 kind (omega arith) (λ z. absurd (omega arith)) _ (c .shift-frame .ensures)
+    later-known _ _ 4 (d .before .before .if2 .left) (sym (m .match .keys4) ∙ d .digit .ensures) (omega arith)
+    (λ z. absurd (omega arith)) _ (c .shift-frame .ensures)
 
 returns-7 : tie.Need-returns-7
 unfolding fieldDigits
 returns-7 c =
     let m = c .before in
     let d = m .before in
-    let zero = d .before .before in
-    let a = zero .before .before .before .before .args in
-    let kind = kind-digit (a .text .now) (a .at) 5 (zero .if2 .left) (sym (m .match .keys5) ∙ d .digit .ensures) (λ z. absurd (omega arith)) in
-    later-known (a .text .now) (a .at) 5 kind (omega arith) (λ z. absurd (omega arith)) _ (rw (m .match .keys5) at (c .byte-frame2 .ensures))
+    later-known _ _ 5 (d .before .before .if2 .left) (sym (m .match .keys5) ∙ d .digit .ensures) (omega arith)
+    (λ z. absurd (omega arith)) _ (rw (m .match .keys5) at (c .byte-frame2 .ensures))
 
 returns-8 : tie.Need-returns-8
 returns-8 c =

@@ -1,7 +1,7 @@
 -- A broken field, or the frame.
 use borrow.Author.Needs.{needs}
-use Rattle.sheet.proofs.frames.frame_of.Statement.{statement}
-use Rattle.sheet.proofs.frames.frame_of.Tie as tie
+use Rattle.sheet.proofs.frames.joined.Statement.{statement}
+use Rattle.sheet.proofs.frames.joined.Tie as tie
 
 enum-known-x : tie.Need-enum-known-x
 enum-known-x c = search needs
@@ -36,8 +36,8 @@ returns-4 c =
     let x = y .before .before .before in
     rw (x .x .given .1, y .y .given .1, c .before .z .given .1)
 
-pub frame-of-spec : {M : Type 1} → statement M
-frame-of-spec =
+pub joined-spec : {M : Type 1} → statement M
+joined-spec =
     tie.close
     (tie.spec
     enum-known-x
