@@ -1,7 +1,7 @@
 -- Digits two by two: so many bytes are all digits if two parts of them are, and a number grows by a byte of two digits at its end.
 use Prim.Native.Nat.{ℕ, zero, suc, _+_, _-_, _*_, _^_, _≤_, _<_}
 use mathlib.Core.Path.{_≡_, refl, sym, _∙_}
-use mathlib.Core.Bool.{Bool, true, false, cond, _||_, or-true}
+use mathlib.Core.Bool.{Bool, true, false, cond, _||_, or-true, false≢true}
 use mathlib.Core.List.{List}
 use native.Mathlib.Nat.{zero-add, add-zero, suc-add, pow-suc, pow-le-pow-right}
 use native.Mathlib.Omega.{arith}
@@ -67,6 +67,27 @@ digit-is b = go (isDigit b) refl
     go true e ne = record { is = e; counts = rw e; most = rw e (digit-most b) }
     go false e ne = absurd (ne refl)
 
+-- 0 is a digit and counts nothing, as no other digit does
+pub zero-digit : isDigit 48 ≡ true
+unfolding isDigit
+zero-digit = refl
+
+pub zero-counts : digitOf 48 ≡ 0
+unfolding digitOf
+zero-counts = refl
+
+pub digit-past-0 : (b : ℕ) → isDigit b ≡ true → (b ≡ 48 → ⊥) → 0 < digitOf b
+unfolding isDigit digitOf
+digit-past-0 b d ne = go (ltb b 48) refl (leb b 57) (ltb b 65) refl (leb b 70) d
+  where
+    go : (p : Bool) → ltb b 48 ≡ p → (q r : Bool) → ltb b 65 ≡ r → (s : Bool)
+        → cond p false (cond q true (cond r false s)) ≡ true → 0 < cond p 0 (cond q (b - 48) (cond r 0 (cond s (b - 55) 0)))
+    go true e q r f s t = absurd (false≢true t)
+    go false e true r f s t = omega (arith, ltb-false b 48 e)
+    go false e false true f s t = absurd (false≢true t)
+    go false e false false f true t = omega (arith, ltb-false b 65 f)
+    go false e false false f false t = absurd (false≢true t)
+
 -- ---- several
 
 ltb-suc : (m n : ℕ) → ltb (suc m) (suc n) ≡ ltb m n
@@ -107,6 +128,13 @@ module _ (text : List ℕ) where
   unfolding digitRun
   second-broken at d e = rw (d, e)
 
+  pub first-of-two : (at : ℕ) → short text at 2 ≡ false → isDigit (getD text at 0) ≡ true
+  first-of-two at h = go (isDigit (getD text at 0)) refl
+    where
+      go : (t : Bool) → isDigit (getD text at 0) ≡ t → isDigit (getD text at 0) ≡ true
+      go true e = e
+      go false e = absurd (false≢true (sym h ∙ first-broken at e))
+
   -- a byte more, and one that is broken
   pub short-more : (at i : ℕ) → short text at (2 * i) ≡ false → short text (at + 2 * i) 2 ≡ false
       → short text at (2 * (i + 1)) ≡ false
@@ -145,6 +173,11 @@ module _ (text : List ℕ) where
   pub number-is : (at k : ℕ) → short text at k ≡ false → Number (spelled text at k) ≡ numberAt text at k
   unfolding numberAt
   number-is at k h = rw h
+
+  -- a field that a kind has not
+  pub nothing : (at : ℕ) → Number 0 ≡ numberAt text at 0
+  unfolding spelled
+  nothing at = number-is at 0 (short-none at)
 
   pub number-broken : (at k : ℕ) → short text at k ≡ true → Broken ≡ numberAt text at k
   unfolding numberAt

@@ -1,42 +1,57 @@
 -- A frame by its parts: it is whole where the kind's digits, each field's digits and the line feed are, and where it would reach
 -- past the end of the text there is none.
 use Prim.Native.Nat.{ℕ, zero, suc, _+_, _≤_, _<_}
-use mathlib.Core.Path.{_≡_, refl, sym, ap}
-use mathlib.Core.Bool.{Bool, true, false, cond, _||_, or-true}
+use mathlib.Core.Path.{_≡_, refl, sym, ap, _∙_}
+use mathlib.Core.Bool.{Bool, true, false, cond, _||_, or-true, false≢true}
 use mathlib.Core.List.{List}
 use native.Mathlib.Omega.{arith}
 use lib.ListN.{length, getD, List·getD-eq-default}
 use lib.Dec.{ltb, eqb}
-use borrow.Author.Tests.{le-ltb, lt-ltb, ne-eqb, eqb-true}
+use borrow.Author.Tests.{le-ltb, lt-ltb, ltb-true, ltb-false, eq-eqb, ne-eqb, eqb-true, eqb-false}
 use Rattle.rules.specs.Digits.{spelled}
-use Rattle.rules.specs.Frames.{digits, fieldDigits, frameDigits, fieldsOf, frameOf, frameAt, endKind}
-use Rattle.theory.proofs.RowLaws.{no-node-kind}
+use Rattle.rules.specs.Frames.{fieldDigits, frameDigits, fieldsOf, frameOf, frameAt, endKind}
 use Rattle.rules.specs.declared.sheet.FieldDigits.{FieldDigits}
-use Rattle.rules.specs.Reading.{refused, headerLine, sheetBy}
+use Rattle.rules.specs.Reading.{refused, endLine, nodeLine, lineBy, lineAt, headerLine, sheetBy}
 use Rattle.rules.specs.declared.answers.ReadAnswer.the-variants.{Line}
+use Rattle.rules.specs.declared.sheet.Cursor.{Cursor}
+use Rattle.rules.specs.declared.sheet.LineStep.the-variants.{Stop}
 use Rattle.rules.specs.declared.sheet.Fields.{Fields}
 use Rattle.rules.specs.declared.sheet.Frame.{Frame}
 use Rattle.rules.specs.declared.sheet.Frame.the-variants.{Bad, Is}
-use Rattle.sheet.specs.Numbers.{short, numberAt, Bytes}
-use Rattle.sheet.specs.Headers.{headerOf}
+use Rattle.sheet.specs.Numbers.{digitOr, short, numberAt, joined}
+use Rattle.sheet.specs.Headers.{headerOf, laterOf}
 use Rattle.sheet.specs.declared.digits.Spelling.{Spelling}
 use Rattle.sheet.specs.declared.digits.Spelling.the-variants.{Number, Broken}
-use Rattle.sheet.proofs.DigitLaws.{short-split, spelt, broken}
+use Rattle.sheet.proofs.DigitLaws.{Digit, digit-is, no-digit, zero-digit, zero-counts, digit-past-0, short-split, two, first-of-two, second-broken, spelled-two, number-is, number-broken, spelt, broken}
+
+-- no line feed stands past the end of the text
+pub past-unfed : (text : List ℕ) (end : ℕ) → length text ≤ end → eqb (getD text end 0) 10 ≡ false
+past-unfed text end h =
+    let z : getD text end 0 ≡ 0 = List·getD-eq-default text 0 h in
+    rw z
+
+pub fed-within : (text : List ℕ) (end : ℕ) → eqb (getD text end 0) 10 ≡ true → end < length text
+fed-within text end e = go (ltb end (length text)) refl
+  where
+    go : (t : Bool) → ltb end (length text) ≡ t → end < length text
+    go true h = ltb-true end (length text) h
+    go false h = absurd (false≢true (sym (past-unfed text end (ltb-false end (length text) h)) ∙ e))
 
 module _ (text : List ℕ) (at kind : ℕ) (w : FieldDigits) where
+  abbrev fed : Bool
+  fed = eqb (getD text (at + frameDigits w) 0) 10
+
   -- no line feed, whatever the digits are
-  pub frame-unfed : (getD text (at + frameDigits w) 0 ≡ 10 → ⊥) → Bad ≡ frameOf text at kind w
+  pub frame-unfed : fed ≡ false → Bad ≡ frameOf text at kind w
   unfolding frameOf
-  frame-unfed ne = rw (ne-eqb (getD text (at + frameDigits w) 0) 10 ne) (go (short text at (frameDigits w)))
+  frame-unfed e = rw e (go (short text at (frameDigits w)))
     where
       go : (t : Bool) → Bad ≡ cond t Bad Bad
       go true = refl
       go false = refl
 
-  pub frame-past : length text ≤ at + frameDigits w → Bad ≡ frameOf text at kind w
-  frame-past h =
-      let z : getD text (at + frameDigits w) 0 ≡ 0 = List·getD-eq-default text 0 h in
-      frame-unfed (λ e. absurd (omega arith))
+  frame-past : length text ≤ at + frameDigits w → Bad ≡ frameOf text at kind w
+  frame-past h = frame-unfed (past-unfed text (at + frameDigits w) h)
 
   parts : short text at (frameDigits w)
       ≡ (short text at 2 || short text (at + 2) (w .x) || short text (at + 2 + w .x) (w .y)
@@ -51,33 +66,46 @@ module _ (text : List ℕ) (at kind : ℕ) (w : FieldDigits) where
   short-frame h = rw h
 
   -- a field that is broken
-  pub broken-x : Broken ≡ numberAt text (at + 2) (w .x) → Bad ≡ frameOf text at kind w
+  broken-x : Broken ≡ numberAt text (at + 2) (w .x) → Bad ≡ frameOf text at kind w
   broken-x e = short-frame (rw (parts, broken text (at + 2) (w .x) e, or-true))
 
-  pub broken-y : Broken ≡ numberAt text (at + 2 + w .x) (w .y) → Bad ≡ frameOf text at kind w
+  broken-y : Broken ≡ numberAt text (at + 2 + w .x) (w .y) → Bad ≡ frameOf text at kind w
   broken-y e = short-frame (rw (parts, broken text (at + 2 + w .x) (w .y) e, or-true))
 
-  pub broken-z : Broken ≡ numberAt text (at + 2 + w .x + w .y) (w .z) → Bad ≡ frameOf text at kind w
+  broken-z : Broken ≡ numberAt text (at + 2 + w .x + w .y) (w .z) → Bad ≡ frameOf text at kind w
   broken-z e = short-frame (rw (parts, broken text (at + 2 + w .x + w .y) (w .z) e, or-true))
 
-  pub whole : (x y z next : ℕ) → short text at 2 ≡ false → getD text (at + frameDigits w) 0 ≡ 10 → next ≡ at + frameDigits w + 1
+  whole : (x y z : ℕ) → short text at 2 ≡ false → fed ≡ true
       → Number x ≡ numberAt text (at + 2) (w .x) → Number y ≡ numberAt text (at + 2 + w .x) (w .y)
       → Number z ≡ numberAt text (at + 2 + w .x + w .y) (w .z)
-      → Is (record { kind = kind; x = x; y = y; z = z; next = next }) ≡ frameOf text at kind w
+      → Is (record { kind = kind; x = x; y = y; z = z; next = at + frameDigits w + 1 }) ≡ frameOf text at kind w
   unfolding frameOf
-  whole x y z next k feed n ex ey ez =
+  whole x y z k feed ex ey ez =
       let sx = spelt text (at + 2) (w .x) x ex in
       let sy = spelt text (at + 2 + w .x) (w .y) y ey in
       let sz = spelt text (at + 2 + w .x + w .y) (w .z) z ez in
       let digits : short text at (frameDigits w) ≡ false = rw (parts, k, sx .0, sy .0, sz .0) in
-      rw (digits, feed, sx .1, sy .1, sz .1, n)
+      rw (digits, feed, sx .1, sy .1, sz .1)
+
+  -- the fields as they are spelled, each where it stands
+  pub joins : (x y z : Spelling) (yAt zAt next : ℕ) → short text at 2 ≡ false → fed ≡ true → next ≡ at + frameDigits w + 1
+      → x ≡ numberAt text (at + 2) (w .x) → yAt ≡ at + 2 + w .x → y ≡ numberAt text yAt (w .y)
+      → zAt ≡ at + 2 + w .x + w .y → z ≡ numberAt text zAt (w .z) → joined kind x y z next ≡ frameOf text at kind w
+  joins x y z yAt zAt next k feed n ex py ey pz ez = rw n (go x y z ex (rw py at ey) (rw pz at ez))
+    where
+      go : (x y z : Spelling) → x ≡ numberAt text (at + 2) (w .x) → y ≡ numberAt text (at + 2 + w .x) (w .y)
+          → z ≡ numberAt text (at + 2 + w .x + w .y) (w .z) → joined kind x y z (at + frameDigits w + 1) ≡ frameOf text at kind w
+      go Broken y z ex ey ez = broken-x ex
+      go (Number x) Broken z ex ey ez = broken-y ey
+      go (Number x) (Number y) Broken ex ey ez = broken-z ez
+      go (Number x) (Number y) (Number z) ex ey ez = whole x y z k feed ex ey ez
 
 module _ (text : List ℕ) (at : ℕ) where
   abbrev kindAt : ℕ
   kindAt = spelled text at 2
 
   -- the text ends before a field
-  pub kind-past : length text ≤ at + 2 → Bad ≡ frameAt text at
+  kind-past : length text ≤ at + 2 → Bad ≡ frameAt text at
   unfolding frameAt
   kind-past h = go (short text at 2) (ltb endKind kindAt)
     where
@@ -86,39 +114,135 @@ module _ (text : List ℕ) (at : ℕ) where
       go false true = refl
       go false false = frame-past text at kindAt (fieldDigits kindAt) (omega arith)
 
-  pub kind-broken : Broken ≡ numberAt text at 2 → Bad ≡ frameAt text at
+  kind-broken : Broken ≡ numberAt text at 2 → Bad ≡ frameAt text at
   unfolding frameAt
   kind-broken e = rw (broken text at 2 e)
 
-  pub kind-unknown : (kind : ℕ) → Number kind ≡ numberAt text at 2 → endKind < kind → Bad ≡ frameAt text at
+  kind-unknown : (kind : ℕ) → Number kind ≡ numberAt text at 2 → endKind < kind → Bad ≡ frameAt text at
   unfolding frameAt
   kind-unknown kind e h =
       let s = spelt text at 2 kind e in
       rw (s .0, ← s .1, lt-ltb endKind kind h)
 
-  pub kind-known : (kind : ℕ) → Number kind ≡ numberAt text at 2 → kind ≤ endKind
+  kind-known : (kind : ℕ) → Number kind ≡ numberAt text at 2 → kind ≤ endKind
       → (frame : Frame) → frame ≡ frameOf text at kind (fieldDigits kind) → frame ≡ frameAt text at
   unfolding frameAt
   kind-known kind e h frame f =
       let s = spelt text at 2 kind e in
       rw (s .0, ← s .1, le-ltb endKind kind h) f
 
--- every kind from the end's on has one field of two digits
-pub end-digits : (kind : ℕ) → (kind ≡ 0 → ⊥) → (kind ≡ 1 → ⊥) → (kind ≡ 2 → ⊥) → (kind ≡ 3 → ⊥) → (kind ≡ 4 → ⊥)
-    → digits 2 0 0 ≡ fieldDigits kind
-unfolding fieldDigits
-end-digits kind n a b c d =
-    no-node-kind (λ (k : ℕ). (k ≡ 0 → ⊥) → digits 2 0 0 ≡ fieldDigits k) (λ z. absurd (z refl)) (λ k z. refl) kind a b c d n
+-- ---- a later line
 
--- every field is of whole bytes
-pub whole-bytes : (kind : ℕ) → Bytes (fieldDigits kind)
-unfolding fieldDigits
-whole-bytes zero = record { most = omega arith; x = refl; y = refl; z = refl }
-whole-bytes (suc zero) = record { most = omega arith; x = refl; y = refl; z = refl }
-whole-bytes (suc (suc zero)) = record { most = omega arith; x = refl; y = refl; z = refl }
-whole-bytes (suc (suc (suc zero))) = record { most = omega arith; x = refl; y = refl; z = refl }
-whole-bytes (suc (suc (suc (suc zero)))) = record { most = omega arith; x = refl; y = refl; z = refl }
-whole-bytes (suc (suc (suc (suc (suc k))))) = record { most = omega arith; x = refl; y = refl; z = refl }
+module _ (text : List ℕ) (at : ℕ) where
+  abbrev pub later : Frame
+  later = laterOf (frameAt text at)
+
+  pub later-past : length text ≤ at + 1 → Bad ≡ later
+  later-past h = ap laterOf (kind-past text at (omega arith))
+
+  -- a kind byte that does not begin with 0
+  pub later-unknown : (getD text at 0 ≡ 48 → ⊥) → Bad ≡ later
+  later-unknown ne = go (numberAt text at 2) refl
+    where
+      go : (n : Spelling) → numberAt text at 2 ≡ n → Bad ≡ later
+      go Broken e = ap laterOf (kind-broken text at (sym e))
+      go (Number kind) e =
+          let s = spelt text at 2 kind (sym e) in
+          let most = digit-past-0 (getD text at 0) (first-of-two text at (s .0)) ne in
+          ap laterOf (kind-unknown text at kind (sym e) (omega (arith, s .1, spelled-two text at, most)))
+
+  -- and one that does
+  kind-digit : (kind : ℕ) → getD text at 0 ≡ 48 → kind ≡ digitOr (getD text (at + 1) 0) → (kind ≡ 16 → ⊥)
+      → Number kind ≡ numberAt text at 2
+  kind-digit kind first e ne =
+      let d : Digit (getD text (at + 1) 0) = digit-is _ (λ z. ne (e ∙ z)) in
+      let value : spelled text at 2 ≡ kind = spelled-two text at ∙ rw (first, zero-counts, ← d .counts, ← e) (omega arith) in
+      rw value at (number-is text at 2 (two text at (rw first zero-digit) (d .is)))
+
+  known-digit : (kind : ℕ) → getD text at 0 ≡ 48 → kind ≡ digitOr (getD text (at + 1) 0) → kind ≤ endKind
+      → Number kind ≡ numberAt text at 2
+  known-digit kind first e h = kind-digit kind first e (λ z. absurd (omega arith))
+
+  pub kind-digits : (kind : ℕ) → getD text at 0 ≡ 48 → kind ≡ digitOr (getD text (at + 1) 0) → kind ≤ endKind
+      → short text at 2 ≡ false
+  kind-digits kind first e h = spelt text at 2 kind (known-digit kind first e h) .0
+
+  own-frame : (kind : ℕ) (w : FieldDigits) → (kind ≡ 0 → ⊥) → frameOf text at kind w ≡ laterOf (frameOf text at kind w)
+  unfolding frameOf
+  own-frame kind w ne = go (short text at (frameDigits w)) (eqb (getD text (at + frameDigits w) 0) 10)
+    where
+      go : (t u : Bool) → cond t Bad (cond u (Is (fieldsOf text at kind w)) Bad)
+          ≡ laterOf (cond t Bad (cond u (Is (fieldsOf text at kind w)) Bad))
+      go true u = refl
+      go false true = rw (ne-eqb kind 0 ne)
+      go false false = refl
+
+  pub later-known : (kind : ℕ) → getD text at 0 ≡ 48 → kind ≡ digitOr (getD text (at + 1) 0) → kind ≤ endKind → (kind ≡ 0 → ⊥)
+      → (frame : Frame) → frame ≡ frameOf text at kind (fieldDigits kind) → frame ≡ later
+  later-known kind first e h ne frame f =
+      f ∙ own-frame kind (fieldDigits kind) ne ∙ ap laterOf (kind-known text at kind (known-digit kind first e h) h _ refl)
+
+  header-left : (w : FieldDigits) → Bad ≡ laterOf (frameOf text at 0 w)
+  unfolding frameOf
+  header-left w = go (short text at (frameDigits w)) (eqb (getD text (at + frameDigits w) 0) 10)
+    where
+      go : (t u : Bool) → Bad ≡ laterOf (cond t Bad (cond u (Is (fieldsOf text at 0 w)) Bad))
+      go true u = refl
+      go false true = refl
+      go false false = refl
+
+  -- a header, a kind above the end's, or a byte that is no digit
+  pub later-other : (kind : ℕ) → getD text at 0 ≡ 48 → kind ≡ digitOr (getD text (at + 1) 0)
+      → ((k : ℕ) → kind ≡ suc k → endKind < kind) → Bad ≡ later
+  later-other kind first e above = go (eqb kind 16) refl
+    where
+      known : (k : ℕ) → kind ≡ k → Number k ≡ numberAt text at 2 → Bad ≡ later
+      known zero z n = header-left (fieldDigits 0) ∙ ap laterOf (kind-known text at 0 n (omega arith) _ refl)
+      known (suc k) z n = ap laterOf (kind-unknown text at (suc k) n (rw z at (above k z)))
+
+      go : (t : Bool) → eqb kind 16 ≡ t → Bad ≡ later
+      go true s =
+          let none = no-digit (getD text (at + 1) 0) (sym e ∙ eqb-true kind 16 s) in
+          ap laterOf (kind-broken text at (number-broken text at 2 (second-broken text at (rw first zero-digit) none)))
+      go false s = known kind refl (kind-digit kind first e (eqb-false kind 16 s))
+
+  own-kind : (f : Fields) → later ≡ Is f → f .kind ≡ 0 → ⊥
+  own-kind f = go (frameAt text at)
+    where
+      go : (frame : Frame) → laterOf frame ≡ Is f → f .kind ≡ 0 → ⊥
+      go Bad e z = let w : _≡_ {A = ℕ} 0 1 = cc in absurd (omega arith)
+      go (Is g) e z = by-test (eqb (g .kind) 0) refl e
+        where
+          by-test : (t : Bool) → eqb (g .kind) 0 ≡ t → cond t Bad (Is g) ≡ Is f → ⊥
+          by-test true k e = let w : _≡_ {A = ℕ} 0 1 = cc in absurd (omega arith)
+          by-test false k e =
+              let s : g ≡ f = cc in
+              eqb-false (g .kind) 0 k (rw s z)
+
+-- what a later line does by its frame: a header there is at fault as no frame is
+module _ (text : List ℕ) (D : ℕ) (here : Cursor) where
+  header-at-fault : (frame : Frame) → lineBy text D here (laterOf frame) ≡ lineBy text D here frame
+  unfolding lineBy
+  header-at-fault Bad = refl
+  header-at-fault (Is f) = go (eqb (f .kind) 0) refl
+    where
+      go : (t : Bool) → eqb (f .kind) 0 ≡ t → lineBy text D here (cond t Bad (Is f))
+          ≡ cond (eqb (f .kind) 5) (endLine text here f) (cond t (Stop (Line (here .line))) (nodeLine D here f))
+      go true e = rw (ne-eqb (f .kind) 5 (λ z. absurd (omega (arith, eqb-true (f .kind) 0 e))))
+      go false e = rw e
+
+  pub later-line : (frame : Frame) → frame ≡ later text (here .at) → lineBy text D here frame ≡ lineAt text D here
+  unfolding lineAt
+  later-line frame e = rw e (header-at-fault (frameAt text (here .at)))
+
+  pub end-frame : (f : Fields) → Is f ≡ later text (here .at) → f .kind ≡ 5 → endLine text here f ≡ lineAt text D here
+  unfolding lineBy
+  end-frame f e k = rw (eq-eqb (f .kind) 5 k) at (later-line (Is f) e)
+
+  pub node-frame : (f : Fields) → Is f ≡ later text (here .at) → (f .kind ≡ 5 → ⊥) → nodeLine D here f ≡ lineAt text D here
+  unfolding lineBy
+  node-frame f e ne =
+      rw (ne-eqb (f .kind) 5 ne, ne-eqb (f .kind) 0 (own-kind text (here .at) f (sym e))) at (later-line (Is f) e)
 
 -- ---- line 1
 
@@ -151,9 +275,19 @@ module _ (text : List ℕ) where
       go false = other-frame kind (fieldDigits kind) ne
 
   -- and the header's: what its frame is
-  pub header-frame : Number 0 ≡ numberAt text 0 2 → (frame : Frame) → frame ≡ frameOf text 0 0 (fieldDigits 0)
+  header-frame : Number 0 ≡ numberAt text 0 2 → (frame : Frame) → frame ≡ frameOf text 0 0 (fieldDigits 0)
       → headerOf frame ≡ header
   header-frame e frame f = ap headerOf (kind-known text 0 0 e (omega arith) frame f)
+
+  pub header-joined : Number 0 ≡ numberAt text 0 2 → (x y z : Spelling) (next : ℕ)
+      → joined 0 x y z next ≡ frameOf text 0 0 (fieldDigits 0) → joined 0 x y z next ≡ header
+  header-joined e x y z next f = own x y z ∙ header-frame e (joined 0 x y z next) f
+    where
+      own : (x y z : Spelling) → joined 0 x y z next ≡ headerOf (joined 0 x y z next)
+      own Broken y z = refl
+      own (Number x) Broken z = refl
+      own (Number x) (Number y) Broken = refl
+      own (Number x) (Number y) (Number z) = refl
 
   pub header-unended : (Bad ≡ frameOf text 0 0 (fieldDigits 0)) → Bad ≡ header
   header-unended f = go (numberAt text 0 2) refl

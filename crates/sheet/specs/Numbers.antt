@@ -1,12 +1,11 @@
 -- What some bytes of a text spell as one look at each tells it: the definitions of Digits, digits and value together.
-use Prim.Native.Nat.{ℕ, _*_, _/_, _≤_}
-use mathlib.Core.Path.{_≡_}
+use Prim.Native.Nat.{ℕ}
 use mathlib.Core.List.{List}
 use mathlib.Core.Bool.{Bool, cond}
 use lib.Dec.{ltb}
 use Rattle.rules.specs.Digits.{isDigit, digitOf, digitRun, spelled}
-use Rattle.rules.specs.Frames.{frameDigits}
-use Rattle.rules.specs.declared.sheet.FieldDigits.{FieldDigits}
+use Rattle.rules.specs.declared.sheet.Frame.{Frame}
+use Rattle.rules.specs.declared.sheet.Frame.the-variants.{Bad, Is}
 use Rattle.sheet.specs.declared.digits.Spelling.{Spelling}
 use Rattle.sheet.specs.declared.digits.Spelling.the-variants.{Number, Broken}
 
@@ -16,13 +15,6 @@ textMost = 2048
 
 abbrev pub numberMost : ℕ
 numberMost = 8
-
--- fields of whole bytes, of two digits each, that fit a line
-pub record Bytes (w : FieldDigits) : Type 0 where
-  pub most : frameDigits w ≤ 18
-  pub x : 2 * (w .x / 2) ≡ w .x
-  pub y : 2 * (w .y / 2) ≡ w .y
-  pub z : 2 * (w .z / 2) ≡ w .z
 
 -- what a digit stands for, and 16 for any other byte
 unfoldable pub digitOr : ℕ → ℕ
@@ -34,3 +26,10 @@ short text at k = ltb (digitRun text at k) k
 
 unfoldable pub numberAt : List ℕ → ℕ → ℕ → Spelling
 numberAt text at k = cond (short text at k) Broken (Number (spelled text at k))
+
+-- a frame of three fields as they are spelled, if none of them is broken
+abbrev pub joined : (kind : ℕ) → (x y z : Spelling) → (next : ℕ) → Frame
+joined kind Broken y z next = Bad
+joined kind (Number x) Broken z next = Bad
+joined kind (Number x) (Number y) Broken next = Bad
+joined kind (Number x) (Number y) (Number z) next = Is (record { kind = kind; x = x; y = y; z = z; next = next })

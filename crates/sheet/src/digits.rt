@@ -22,7 +22,7 @@ pub(crate) enum Spelling {
 }
 
 // A range is two tests in a row, which the compiler makes one of.
-fn digit(b: u8) -> u64
+pub(crate) fn digit(b: u8) -> u64
     ensures { λ r. ⌜ r ≡ digitOr b ⌝ }
 {
     if b'0' <= b {
@@ -56,15 +56,28 @@ pub(crate) fn two_digits(text: &[u8], at: usize) -> Spelling
     Spelling::Number(value)
 }
 
-// The number that so many bytes of two digits each spell, most significant first. Most fields are of one byte, and need no loop.
+// The number of two bytes that four digits spell.
+pub(crate) fn four_digits(text: &[u8], at: usize) -> Spelling
+    requires { ⌜ at + 4 ≤ length (now text) ⌝ }
+    ensures { λ r. ⌜ r ≡ numberAt (now (text .entry)) at 4 ⌝ }
+{
+    let Spelling::Number(high) = two_digits(text, at) else {
+        return Spelling::Broken;
+    };
+    let third = at + 2;
+    let Spelling::Number(low) = two_digits(text, third) else {
+        return Spelling::Broken;
+    };
+    let value = high * BYTE + low;
+    Spelling::Number(value)
+}
+
+// The number that so many bytes of two digits each spell, most significant first.
 pub(crate) fn number(text: &[u8], at: usize, bytes: usize) -> Spelling
     requires { ⌜ at + 2 * bytes ≤ length (now text) ⌝ }
     requires { ⌜ bytes ≤ numberMost ⌝ }
     ensures { λ r. ⌜ r ≡ numberAt (now (text .entry)) at (2 * bytes) ⌝ }
 {
-    if bytes == 1 {
-        return two_digits(text, at);
-    }
     let mut value: u64 = 0;
     let mut i = 0;
     while i < bytes {

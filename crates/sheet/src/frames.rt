@@ -1,116 +1,183 @@
-// The frame that stands at a place of the text: its kind byte, its fields and its line feed. Where a line would reach past the end
-// of the text there is none, so one look at the length is enough for all of its digits.
+// The frame that stands at a place of the text: its kind byte, its fields and its line feed. Each kind has a function of its own,
+// which knows where its fields stand: one look at the length and one at each digit are enough.
 use crate::digits::Spelling;
+use crate::digits::digit;
+use crate::digits::four_digits;
 use crate::digits::number;
 use crate::digits::two_digits;
-use rules::sheet::FieldDigits;
 use rules::sheet::Fields;
 use rules::sheet::Frame;
 ghost use mathlib.Core.Path.{_≡_};
 ghost use mathlib.Core.Bool.{false};
 ghost use Prim.Native.Nat.{_<_};
-ghost use Rattle.rules.specs.Frames.{fieldDigits, frameOf, frameAt};
-ghost use Rattle.sheet.specs.Numbers.{short, Bytes, textMost};
-ghost use Rattle.sheet.specs.Headers.{headerOf};
-
-// Digits of a byte, and so of the kind.
-const DIGITS: usize = 2;
+ghost use lib.ListN.{getD};
+ghost use lib.Dec.{eqb};
+ghost use Rattle.rules.specs.Frames.{loadKind, splatKind, shiftKind, digits, fieldDigits, frameOf, frameAt};
+ghost use Rattle.sheet.specs.Numbers.{short, joined, textMost};
+ghost use Rattle.sheet.specs.Headers.{headerOf, laterOf};
 
 const HEADER_KIND: u64 = 0;
 
-const END_KIND: u64 = 5;
+const LOAD_KIND: u64 = 1;
 
-// Where the header's fields stand, the bytes of n and of S, and where the line ends.
-const D_AT: usize = 2;
+const SPLAT_KIND: u64 = 2;
 
-const N_AT: usize = 4;
+const SHIFT_KIND: u64 = 4;
 
-const S_AT: usize = 8;
-
-const N_BYTES: usize = 2;
-
-const S_BYTES: usize = 2;
-
+// The digits of each kind, as the paper's table has them. An op and an end are of one length.
 const HEADER_DIGITS: usize = 12;
+
+const LOAD_DIGITS: usize = 8;
+
+const SPLAT_DIGITS: usize = 18;
+
+const OP_DIGITS: usize = 4;
+
+const SHIFT_DIGITS: usize = 6;
+
+// Where the fields stand: the first, the second after one of a byte, and the header's third.
+const X_AT: usize = 2;
+
+const Y_AT: usize = 4;
+
+const Z_AT: usize = 8;
+
+// The bytes of a splat's value.
+const VALUE_BYTES: usize = 8;
+
+// The first digit of every kind.
+const ZERO: u8 = 48;
 
 const LINE_FEED: u8 = 10;
 
-// The digits of a kind's fields, as the paper's table has them.
-fn field_digits(kind: u64) -> FieldDigits
-    ensures { λ r. ⌜ r ≡ fieldDigits kind ⌝ }
+// Whether a line ends here. A place past the end of the text is no end.
+fn ended(text: &[u8], end: usize) -> bool
+    ensures { λ r. ⌜ r ≡ eqb (getD (now (text .entry)) end 0) 10 ⌝ }
 {
-    match kind {
-        0 => FieldDigits { x: 2, y: 4, z: 4 },
-        1 => FieldDigits { x: 2, y: 4, z: 0 },
-        2 => FieldDigits { x: 16, y: 0, z: 0 },
-        3 => FieldDigits { x: 2, y: 0, z: 0 },
-        4 => FieldDigits { x: 2, y: 2, z: 0 },
-        _ => FieldDigits { x: 2, y: 0, z: 0 },
+    if text.len() <= end {
+        return false;
     }
+    text[end] == LINE_FEED
 }
 
-// The frame of a kind whose two digits were read.
-fn frame_of(text: &[u8], at: usize, kind: u64, w: FieldDigits) -> Frame
-    requires { ⌜ at < textMost ⌝ }
-    requires { ⌜ Bytes w ⌝ }
-    requires { ⌜ short (now text) at 2 ≡ false ⌝ }
-    ensures { λ r. ⌜ r ≡ frameOf (now (text .entry)) at kind w ⌝ }
+// A frame whose line is ended, of its fields as they are spelled.
+fn joined(kind: u64, x: Spelling, y: Spelling, z: Spelling, next: u64) -> Frame
+    ensures { λ r. ⌜ r ≡ joined kind x y z next ⌝ }
 {
-    let x_at = at + DIGITS;
-    let y_at = x_at + w.x as usize;
-    let z_at = y_at + w.y as usize;
-    let end = z_at + w.z as usize;
-    if text.len() <= end {
-        return Frame::Bad;
-    }
-    if text[end] != LINE_FEED {
-        return Frame::Bad;
-    }
-    let Spelling::Number(x) = number(text, x_at, w.x as usize / DIGITS) else {
+    let Spelling::Number(first) = x else {
         return Frame::Bad;
     };
-    let Spelling::Number(y) = number(text, y_at, w.y as usize / DIGITS) else {
+    let Spelling::Number(second) = y else {
         return Frame::Bad;
     };
-    let Spelling::Number(z) = number(text, z_at, w.z as usize / DIGITS) else {
+    let Spelling::Number(third) = z else {
         return Frame::Bad;
     };
-    let next = end as u64 + 1;
     Frame::Is(Fields {
-        kind,
-        x,
-        y,
-        z,
-        next,
+        kind: kind,
+        x: first,
+        y: second,
+        z: third,
+        next: next,
     })
 }
 
-pub(crate) fn frame_at(text: &[u8], at: usize) -> Frame
+// 01: window and address.
+fn load_frame(text: &[u8], at: usize) -> Frame
     requires { ⌜ at < textMost ⌝ }
-    ensures { λ r. ⌜ r ≡ frameAt (now (text .entry)) at ⌝ }
+    requires { ⌜ short (now text) at 2 ≡ false ⌝ }
+    ensures { λ r. ⌜ r ≡ frameOf (now (text .entry)) at loadKind (fieldDigits loadKind) ⌝ }
 {
-    let fields = at + DIGITS;
-    if text.len() <= fields {
+    let end = at + LOAD_DIGITS;
+    if !ended(text, end) {
         return Frame::Bad;
     }
-    let Spelling::Number(kind) = two_digits(text, at) else {
-        return Frame::Bad;
-    };
-    if END_KIND < kind {
-        return Frame::Bad;
-    }
-    let w = field_digits(kind);
-    frame_of(text, at, kind, w)
+    let x = two_digits(text, at + X_AT);
+    let y = four_digits(text, at + Y_AT);
+    let next = end as u64 + 1;
+    joined(LOAD_KIND, x, y, Spelling::Number(0), next)
 }
 
-// The header on line 1, and no other frame. It is read by itself: frame_at then has one caller, and is compiled into its loop.
+// 02: value.
+fn splat_frame(text: &[u8], at: usize) -> Frame
+    requires { ⌜ at < textMost ⌝ }
+    requires { ⌜ short (now text) at 2 ≡ false ⌝ }
+    ensures { λ r. ⌜ r ≡ frameOf (now (text .entry)) at splatKind (fieldDigits splatKind) ⌝ }
+{
+    let end = at + SPLAT_DIGITS;
+    if !ended(text, end) {
+        return Frame::Bad;
+    }
+    let x = number(text, at + X_AT, VALUE_BYTES);
+    let next = end as u64 + 1;
+    joined(
+        SPLAT_KIND,
+        x,
+        Spelling::Number(0),
+        Spelling::Number(0),
+        next,
+    )
+}
+
+// 03: operation; and 05: number of node frames.
+fn byte_frame(text: &[u8], at: usize, kind: u64) -> Frame
+    requires { ⌜ at < textMost ⌝ }
+    requires { ⌜ short (now text) at 2 ≡ false ⌝ }
+    ensures { λ r. ⌜ r ≡ frameOf (now (text .entry)) at kind (digits 2 0 0) ⌝ }
+{
+    let end = at + OP_DIGITS;
+    if !ended(text, end) {
+        return Frame::Bad;
+    }
+    let x = two_digits(text, at + X_AT);
+    let next = end as u64 + 1;
+    joined(kind, x, Spelling::Number(0), Spelling::Number(0), next)
+}
+
+// 04: from and to.
+fn shift_frame(text: &[u8], at: usize) -> Frame
+    requires { ⌜ at < textMost ⌝ }
+    requires { ⌜ short (now text) at 2 ≡ false ⌝ }
+    ensures { λ r. ⌜ r ≡ frameOf (now (text .entry)) at shiftKind (fieldDigits shiftKind) ⌝ }
+{
+    let end = at + SHIFT_DIGITS;
+    if !ended(text, end) {
+        return Frame::Bad;
+    }
+    let x = two_digits(text, at + X_AT);
+    let y = two_digits(text, at + Y_AT);
+    let next = end as u64 + 1;
+    joined(SHIFT_KIND, x, y, Spelling::Number(0), next)
+}
+
+// A frame on a line after the first, which no header is. No kind's first digit is another than 0, and what is no digit counts as 16.
+pub(crate) fn later_frame(text: &[u8], at: usize) -> Frame
+    requires { ⌜ at < textMost ⌝ }
+    ensures { λ r. ⌜ r ≡ laterOf (frameAt (now (text .entry)) at) ⌝ }
+{
+    let second = at + 1;
+    if text.len() <= second {
+        return Frame::Bad;
+    }
+    if text[at] != ZERO {
+        return Frame::Bad;
+    }
+    let kind = digit(text[second]);
+    match kind {
+        1 => load_frame(text, at),
+        2 => splat_frame(text, at),
+        3 => byte_frame(text, at, kind),
+        4 => shift_frame(text, at),
+        5 => byte_frame(text, at, kind),
+        _ => Frame::Bad,
+    }
+}
+
+// The header on line 1, and no other frame.
 pub(crate) fn header_frame(text: &[u8]) -> Frame
     ensures { λ r. ⌜ r ≡ headerOf (frameAt (now (text .entry)) 0) ⌝ }
 {
-    if text.len() <= HEADER_DIGITS {
-        return Frame::Bad;
-    }
-    if text[HEADER_DIGITS] != LINE_FEED {
+    if !ended(text, HEADER_DIGITS) {
         return Frame::Bad;
     }
     let Spelling::Number(kind) = two_digits(text, 0) else {
@@ -119,21 +186,9 @@ pub(crate) fn header_frame(text: &[u8]) -> Frame
     if kind != HEADER_KIND {
         return Frame::Bad;
     }
-    let Spelling::Number(x) = two_digits(text, D_AT) else {
-        return Frame::Bad;
-    };
-    let Spelling::Number(y) = number(text, N_AT, N_BYTES) else {
-        return Frame::Bad;
-    };
-    let Spelling::Number(z) = number(text, S_AT, S_BYTES) else {
-        return Frame::Bad;
-    };
+    let x = two_digits(text, X_AT);
+    let y = four_digits(text, Y_AT);
+    let z = four_digits(text, Z_AT);
     let next = HEADER_DIGITS as u64 + 1;
-    Frame::Is(Fields {
-        kind,
-        x,
-        y,
-        z,
-        next,
-    })
+    joined(HEADER_KIND, x, y, z, next)
 }

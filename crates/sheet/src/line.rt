@@ -1,5 +1,5 @@
 // What one line after the header does: LINE, then RANGE, then SHAPE, or reading goes on.
-use crate::frames::frame_at;
+use crate::frames::later_frame;
 use rules::answers::ReadAnswer;
 use rules::sheet::Cursor;
 use rules::sheet::Fields;
@@ -68,14 +68,13 @@ pub(crate) fn line_at(text: &[u8], width: Width, here: Cursor) -> LineStep
     requires { ⌜ Reached here ⌝ }
     ensures { λ r. ⌜ r ≡ lineAt (now (text .entry)) (widthBytes width) here ⌝ }
 {
-    let frame = frame_at(text, here.at as usize);
+    let frame = later_frame(text, here.at as usize);
     match frame {
         Frame::Bad => LineStep::Stop(ReadAnswer::Line(here.line)),
         Frame::Is(f) => {
             let kind = f.kind;
             match kind {
                 5 => end_line(text, here, f),
-                0 => LineStep::Stop(ReadAnswer::Line(here.line)),
                 _ => node_line(width, here, f),
             }
         }

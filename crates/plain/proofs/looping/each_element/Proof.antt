@@ -28,7 +28,7 @@ value-requires c κs =
     let s = c .before .before .before .before .before .before .before .before in
     let l = c .before .before .loop in
     let test = c .before .loop-test .taken in
-    next-evaluable (s .pre) (l .inv) test
+    next-evaluable (s .pre) (l .inv) (omega (arith, test))
 
 address-of-requires : tie.Need-address-of-requires Inv-loop μ-loop
 address-of-requires c κs =
@@ -41,7 +41,7 @@ store-element-requires c κs =
     let s = c .before .before .before .before .before .before .before .before .before .before .before in
     let l = c .before .before .before .before .before .loop in
     let test = c .before .before .before .before .loop-test .taken in
-    rw (c .before .address-of .ensures) (next-fits (s .pre) (l .inv) test)
+    rw (c .before .address-of .ensures) (next-fits (s .pre) (l .inv) (omega (arith, test)))
 
 loop-less : tie.Need-loop-less Inv-loop μ-loop
 loop-less c = omega arith
@@ -51,7 +51,7 @@ loop-again c =
     let s = c .before .before .before .before .before .before .before .before .before .before .before .before .before .before in
     let l = c .before .before .before .before .before .before .before .before .loop in
     let test = c .before .before .before .before .before .before .before .loop-test .taken in
-    next-after (s .pre) (l .inv) test
+    next-after (s .pre) (l .inv) (omega (arith, test))
     (c .before .before .before .before .before .value .ensures)
     (c .before .before .store-element .kept .0)
     (rw (c .before .before .before .before .address-of .ensures) at (c .before .before .store-element .ensures))
@@ -63,7 +63,7 @@ returns : tie.Need-returns Inv-loop μ-loop
 returns c =
     let s = c .before .before .before .before .before .before .before in
     let l = c .before .loop in
-    ends (s .pre) (l .inv) (c .loop-test .left)
+    ends (s .pre) (l .inv) (omega (arith, c .loop-test .left))
 
 pub each-element-spec : {M : Type 1} → statement M
 each-element-spec =
