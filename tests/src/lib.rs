@@ -10,6 +10,7 @@ pub mod cases;
 pub mod graph;
 pub mod graphs;
 pub mod handed;
+pub mod header;
 pub mod loops;
 pub mod machine;
 pub mod paper;
