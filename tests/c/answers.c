@@ -24,6 +24,11 @@ static void reads_done(void) {
     left(then.head, len.head, NODES(8, 4096, 248, 4));
     left(then.nodes, len.nodes, NODES(2, 0xFEDCBA9876543210, 0, 1, 1, 0, 4, 0, 8, 3, 5, 0));
     DONE(READ);
+
+    given_text("00010000FFFF\n0101FFFF\n0200000000000000FF\n0302\n0503\n");
+    left(then.head, len.head, NODES(1, 0, 65535, 3));
+    left(then.nodes, len.nodes, NODES(1, 1, 65535, 2, 255, 0, 3, 2, 0));
+    DONE(READ);
 }
 
 static void reads_no_line(void) {
@@ -70,8 +75,16 @@ static void reads_no_range(void) {
     REFUSES(READ, SINKERJAW_RANGE, 3); /* no multiple of D */
 }
 
+/* 64 loads and another line. */
+static const char *long_text(const char *another) {
+    static char lines[13 + 64 * 9 + 16];
+    strcpy(lines, "000100010000\n");
+    for (int node = 0; node < 64; node++)
+        strcat(lines, "01000000\n");
+    return strcat(lines, another);
+}
+
 static void reads_no_shape(void) {
-    static char long_text[13 + 65 * 9 + 5 + 1] = "000100010000\n";
     given_text("000200640206\n0500\n");
     REFUSES(READ, SINKERJAW_SHAPE, 2);
     given_text("000100010000\n01000000\n0300\n0502\n");
@@ -80,13 +93,14 @@ static void reads_no_shape(void) {
     REFUSES(READ, SINKERJAW_SHAPE, 2); /* none waits for a shift; the line after is out of range, but later */
     given_text("000100010000\n01000000\n0502\n");
     REFUSES(READ, SINKERJAW_SHAPE, 3); /* a wrong number of nodes */
+    given_text("000100010000\n01000000\n0541\n");
+    REFUSES(READ, SINKERJAW_SHAPE, 3); /* .. above 64, which is no RANGE */
     given_text("000100010000\n01000000\n01000000\n0502\n");
     REFUSES(READ, SINKERJAW_SHAPE, 4); /* two wait at the end */
-    for (int node = 0; node < 65; node++)
-        strcat(long_text, "01000000\n");
-    strcat(long_text, "0541\n");
-    given_text(long_text);
+    given_text(long_text("01000000\n"));
     REFUSES(READ, SINKERJAW_SHAPE, 66); /* a 65th node */
+    given_text(long_text("01020000\n"));
+    REFUSES(READ, SINKERJAW_RANGE, 66); /* .. out of its range, which comes before */
 }
 
 static void reads(void) {
@@ -125,7 +139,7 @@ static void need_rule(enum call call) {
     rule = 4;
     REFUSES(call, SINKERJAW_RANGE, 0);
     given(1, 1, 0, NODES(LOAD(TABLE, 0)));
-    rule = UINT64_MAX;
+    rule = 256;
     REFUSES(call, SINKERJAW_RANGE, 0);
 }
 
@@ -152,9 +166,13 @@ static void need_range(enum call call) {
     REFUSES(call, SINKERJAW_RANGE, 3);
     given(2, 1, 0, NODES(LOAD(TABLE, 0), SHIFT(0, 3)));
     REFUSES(call, SINKERJAW_RANGE, 3);
+    given(2, 1, 0, NODES(LOAD(TABLE, 0), SHIFT(3, 0)));
+    REFUSES(call, SINKERJAW_RANGE, 3);
     given(1, 1, 0, NODES(0, 0, 0));
     REFUSES(call, SINKERJAW_RANGE, 2); /* unknown kinds */
     given(1, 1, 0, NODES(5, 0, 0));
+    REFUSES(call, SINKERJAW_RANGE, 2);
+    given(1, 1, 0, NODES(257, 0, 0));
     REFUSES(call, SINKERJAW_RANGE, 2);
 }
 
@@ -173,6 +191,8 @@ static void need_shape(enum call call) {
         memcpy(now.nodes + 3 * node, now.nodes, 3 * sizeof *now.nodes);
     said(65);
     REFUSES(call, SINKERJAW_SHAPE, 66);
+    said(257);
+    REFUSES(call, SINKERJAW_SHAPE, 66);
 }
 
 /* So many nodes: a load, then a load and an op in turn, all at offset 0. */
@@ -186,10 +206,13 @@ static void given_comb(uint64_t s, uint64_t nodes) {
 
 /* The sheets here have an address at fault too, which comes after. */
 static void need_bare(enum call call) {
+    const uint64_t shift[] = {SHIFT(0, 4)};
     given(2, 1, 1, NODES(LOAD(TABLE, 0), SHIFT(0, 4), SHIFT(4, 0)));
     REFUSES(call, SINKERJAW_BARE, 3);
     given_comb(1, 33);
-    REFUSES(call, SINKERJAW_BARE, 33); /* the 32nd node */
+    memcpy(now.nodes + 3 * 33, shift, sizeof shift);
+    said(34);
+    REFUSES(call, SINKERJAW_BARE, 33); /* the 32nd node; the shift comes later */
 }
 
 static void need_windows(enum call call) {
@@ -226,6 +249,8 @@ static void need_bounds(enum call call) {
 static void need_no_carry(enum call call) {
     given(2, 2, 4, NODES(LOAD(TABLE, 2), LOAD(WORK, 2), OP(0)));
     REFUSES(call, SINKERJAW_CARRY, 3); /* not line 2, which loads from the other window */
+    given(2, 31, 4, NODES(LOAD(WORK, 2)));
+    REFUSES(call, SINKERJAW_BOUNDS, 1); /* first */
 }
 
 static void need_offsets(enum call call) {
@@ -235,6 +260,8 @@ static void need_offsets(enum call call) {
     REFUSES(call, SINKERJAW_OFFSET, 3); /* the child is at 2 */
     given(2, 1, 6, NODES(SPLAT(1), SHIFT(0, 6)));
     REFUSES(call, SINKERJAW_OFFSET, 3); /* the child's offset is undefined */
+    given(2, 1, 6, NODES(SPLAT(1), SHIFT(0, 6), LOAD(TABLE, 8), OP(0)));
+    REFUSES(call, SINKERJAW_OFFSET, 3); /* the store, at 6 below an op at 8, comes after the nodes */
     given(2, 1, 6, NODES(LOAD(TABLE, 2)));
     REFUSES(call, SINKERJAW_OFFSET, 1);
     given(2, 1, 4, NODES(SPLAT(1), LOAD(TABLE, 6), OP(0)));
@@ -246,6 +273,8 @@ static void need_offsets(enum call call) {
 static void checks(void) {
     given(2, 100, 518, NODES(LOAD(TABLE, 2), LOAD(WORK, 10), OP(0), LOAD(WORK, 258), OP(0)));
     DONE(CHECK);
+    given(1, 0, 65535, NODES(LOAD(TABLE, 65535), SINKERJAW_NODE_SPLAT, 255, 9999, SINKERJAW_NODE_OP, 5, 9999));
+    DONE(CHECK); /* the ends of ranges, and fields that are not used */
     need_room(CHECK);
     need_range(CHECK);
     need_shape(CHECK);
@@ -287,6 +316,10 @@ static void loops_done(void) {
 
     given(8, 0, 64, NODES(LOAD(TABLE, 48)));
     DONE(PLAIN); /* no element, at the ends of both windows */
+    given(8, 0, 0, NODES(LOAD(TABLE, 65528)));
+    len.work = 0;
+    len.table = 65536;
+    DONE(PLAIN); /* windows of the least and the greatest length */
 }
 
 static void loops(void) {
@@ -329,8 +362,27 @@ static void places_printed(void) {
     DONE(PLACE);
 }
 
+/* Loads at 2 below a store at 6: EAGER moves each, LAZY the root. A load that stands at 6 is moved twice by ZERO. */
+static void places_few(void) {
+    given(2, 1, 6, NODES(LOAD(TABLE, 2), LOAD(WORK, 18), OP(0)));
+    rule = SINKERJAW_RULE_EAGER;
+    left(then.placed_head, len.placed_head, NODES(2, 1, 6, 5));
+    left(then.placed_nodes, len.placed_nodes, NODES(LOAD(TABLE, 2), SHIFT(2, 6), LOAD(WORK, 18), SHIFT(2, 6), OP(0)));
+    DONE(PLACE);
+    rule = SINKERJAW_RULE_LAZY;
+    left(then.placed_head, len.placed_head, NODES(2, 1, 6, 4));
+    left(then.placed_nodes, len.placed_nodes, NODES(LOAD(TABLE, 2), LOAD(WORK, 18), OP(0), SHIFT(2, 6)));
+    DONE(PLACE);
+    given(2, 4096, 65526, NODES(LOAD(TABLE, 65526)));
+    rule = SINKERJAW_RULE_ZERO;
+    left(then.placed_head, len.placed_head, NODES(2, 4096, 65526, 3));
+    left(then.placed_nodes, len.placed_nodes, NODES(LOAD(TABLE, 65526), SHIFT(6, 0), SHIFT(0, 6)));
+    DONE(PLACE); /* beyond every window, which placing does not judge */
+}
+
 static void places(void) {
     places_printed();
+    places_few();
     given_comb(0, 31);
     len.placed_head = 10;
     len.placed_nodes = 192;
@@ -389,30 +441,75 @@ static void translates_prologues(void) {
     DONE(TRANSLATE); /* no element, no instruction */
 }
 
-/* A load under 8 shifts has G = 511, under 9 it has 1,023; that is judged where there is no element, too. */
+/* Left and right shifts one in the other, n = 1: the tree has 7 instructions. ZERO makes the same graph of the load. */
+static void left_nested(void) {
+    left_zero(TRANSLATE);
+    left(then.program, len.program, NODES(2, 0, 11, 0, 0));
+    left_code(then.prologue, len.prologue,
+              CODE(VLOAD(0, TABLE, 6), VLOAD(1, TABLE, 22), VPAIR(2, 0, 1, 6), VLOAD(3, TABLE, -10), VLOAD(4, TABLE, 6),
+                   VPAIR(5, 3, 4, 6), VPAIR(6, 5, 2, 10), VLOAD(7, WORK, 6), VSPLICE(8, 7, 6, 6), VSPLICE(9, 8, 7, 8),
+                   VSTORE(9, 6)));
+}
+
+/* A load under so many shifts between 0 and 8, of which the last goes to 8. */
+static void add_chain(uint64_t shifts) {
+    const uint64_t load[2][3] = {{LOAD(TABLE, 8)}, {LOAD(TABLE, 0)}}, shift[2][3] = {{SHIFT(8, 0)}, {SHIFT(0, 8)}};
+    uint64_t node = now.head[SINKERJAW_HEAD_NODES];
+    memcpy(now.nodes + 3 * node++, load[shifts % 2], sizeof *load);
+    for (uint64_t remaining = shifts; remaining > 0; remaining--)
+        memcpy(now.nodes + 3 * node++, shift[remaining % 2], sizeof *shift);
+    said(node);
+}
+
+static void add_ops(uint64_t ops) {
+    const uint64_t op[] = {OP(0)};
+    uint64_t node = now.head[SINKERJAW_HEAD_NODES];
+    while (ops-- > 0)
+        memcpy(now.nodes + 3 * node++, op, sizeof op);
+    said(node);
+}
+
+/* A sheet of no element, stored at 8, that adds chains of shifts. A chain of 8 has G = 511, one of 9 has 1,023. */
+static void given_chains(size_t chains, const uint64_t *shifts) {
+    given(1, 0, 8, NODES(LOAD(TABLE, 0)));
+    said(0);
+    for (size_t chain = 0; chain < chains; chain++)
+        add_chain(shifts[chain]);
+    add_ops(chains - 1);
+}
+
+/* G is judged where there is no element, too. */
 static void need_short(void) {
-    given(1, 0, 0, NODES(LOAD(TABLE, 0), SHIFT(0, 8), SHIFT(8, 0), SHIFT(0, 8), SHIFT(8, 0), SHIFT(0, 8), SHIFT(8, 0),
-                         SHIFT(0, 8), SHIFT(8, 0), SHIFT(0, 8)));
-    REFUSES(TRANSLATE, SINKERJAW_OFFSET, 1); /* before LONG */
-    now.head[SINKERJAW_HEAD_S] = 8;
-    keep();
+    given_chains(NODES(9));
     REFUSES(TRANSLATE, SINKERJAW_LONG, 0);
     now.head[SINKERJAW_HEAD_S] = 0;
-    said(9);
+    keep();
+    REFUSES(TRANSLATE, SINKERJAW_OFFSET, 1); /* before LONG */
+    given_chains(NODES(8));
+    left_zero(TRANSLATE);
     left(then.program, len.program, NODES(1, 0, 0, 0, 0));
     DONE(TRANSLATE);
+    given_chains(NODES(8, 7, 6, 5, 4, 3, 2, 1, 0));
+    REFUSES(TRANSLATE, SINKERJAW_LONG, 0); /* 511 + 255 + .. + 3 + 1, and 8 ops: 1,021 */
+    given_chains(NODES(8, 7, 6, 5, 4, 3, 2, 0, 0));
+    left_zero(TRANSLATE);
+    left(then.program, len.program, NODES(1, 0, 0, 0, 0));
+    DONE(TRANSLATE); /* 1,019 */
 }
 
 static void translates(void) {
     translates_whole(MORE - UNLENT);
     translates_whole(0);
     translates_prologues();
+    given(2, 1, 6, NODES(LOAD(TABLE, 6), SHIFT(6, 0), SHIFT(0, 6)));
+    left_nested();
+    DONE(TRANSLATE);
     need_room(TRANSLATE);
     need_range(TRANSLATE);
     need_shape(TRANSLATE);
     need_windows(TRANSLATE);
     given(2, 1, 1, NODES(LOAD(TABLE, 0)));
-    len.work = SIZE_MAX - 15;
+    len.work = 4294967296;
     REFUSES(TRANSLATE, SINKERJAW_WINDOW, WORK);
     need_alignment(TRANSLATE);
     need_bounds(TRANSLATE);
@@ -446,6 +543,11 @@ static void plans_done(void) {
               CODE(VLOAD(0, WORK, 2), VLOAD(1, WORK, -14), VPAIR(2, 1, 0, 14), VLOAD(3, WORK, 4), VSPLICE(4, 3, 2, 4),
                    VSPLICE(5, 4, 3, 6), VSTORE(5, 4)));
     DONE(PLAN); /* A = S - D with n = 1 is no CARRY */
+
+    given(2, 1, 6, NODES(LOAD(TABLE, 6)));
+    rule = SINKERJAW_RULE_ZERO;
+    left_nested();
+    DONE(PLAN);
 }
 
 static void plans(void) {
@@ -533,8 +635,10 @@ static void faults(int line, size_t entries, const uint32_t *code) {
 static void faults_of_fields(void) {
     FAULTS(0, 0, 0, 0, 0, 0);
     FAULTS(7, 0, 0, 0, 0, 0);
+    FAULTS(257, 0, 0, 0, 0, 0);
     FAULTS(VLOAD(1024, TABLE, 0));
     FAULTS(VLOAD(0, 2, 0));
+    FAULTS(VLOAD(0, 65536, 0));
     FAULTS(VSPLAT(1024, 0, 0));
     FAULTS(VSPLAT(0, 0, 1));
     FAULTS(VOP(0, 0, 0, 6));
@@ -562,12 +666,22 @@ static void runs_at_edges(void) {
     then.work[0] = then.table[15];
     memcpy(then.work + 32, then.table, 16);
     DONE_AFTER(9);
+    given_program(1, 1);
+    for (int row = 0; row < 1024; row++)
+        section(now.prologue + 6 * row, SINKERJAW_PROGRAM_PROLOGUE, CODE(VLOAD(0, TABLE, 65520)));
+    now.program[SINKERJAW_PROGRAM_PROLOGUE] = 1024;
+    len.work = 0;
+    len.table = 65536;
+    keep();
+    DONE_AFTER(1024); /* the longest section, and windows of the least and the greatest length */
 }
 
 static void need_start(void) {
     given_program(3, 0);
     budget = 0;
     STOPS(SINKERJAW_FAULT, 0); /* before the budget, and though there is nothing to do */
+    given_program(257, 0);
+    STOPS(SINKERJAW_FAULT, 0);
     given_program(1, 2049);
     STOPS(SINKERJAW_FAULT, 0);
     given_program(1, 2048);
