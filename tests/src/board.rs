@@ -1,6 +1,6 @@
-//! The library's functions, as C sees them, behind safe ones. Nothing checks these declarations against the Rattle source: the
-//! order and the widths of the arguments stand here and there. `build.rs` says which functions the library has; the place of
-//! one that it has not is taken by the independent one, and `LINKED` does not name it.
+//! The library's functions, as C sees them, behind safe ones. `header.rs` holds these declarations to the Rattle source, from which
+//! the compiler makes a pointer and a length of each slice. `build.rs` says which functions the library has; the place of one that
+//! it has not is taken by the independent one, and `LINKED` does not name it.
 
 use crate::calls::{Call, Calls, INDEPENDENT};
 

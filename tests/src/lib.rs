@@ -12,6 +12,7 @@ pub mod graph;
 pub mod graphs;
 pub mod growth;
 pub mod handed;
+pub mod header;
 pub mod loops;
 pub mod machine;
 pub mod paper;

@@ -1,6 +1,6 @@
 //! The outside tests: the library against an independent implementation, case by case.
 //!
-//!     outside               every family against the library; exit status 1 at the first difference
+//!     outside               the header for C, and every family against the library; exit status 1 at the first difference
 //!     outside --times N     N times as many cases
 //!     outside --seed S      other cases; 0 is the usual seed
 //!     outside --seeds A B   the cases of every seed from A to B
@@ -14,7 +14,7 @@ use outside::calls::{Call, Calls, ALL, INDEPENDENT};
 use outside::cases::{keeps_plain_loop, observe, Case, Family, Outcome};
 use outside::show::print_difference;
 use outside::wrong_calls::Wrong;
-use outside::{careful, graphs, handed, paper, programs, texts, windows, wrong_calls, DONE, FAULT};
+use outside::{careful, graphs, handed, header, paper, programs, texts, windows, wrong_calls, DONE, FAULT};
 use std::ops::RangeInclusive;
 use std::process::ExitCode;
 
@@ -33,6 +33,27 @@ fn keeps_paper(name: &str, calls: &Calls) -> bool {
         println!("{name}: not as in document 01: {case}");
     }
     wrong.is_empty()
+}
+
+/// The header for C, which must be as this side has it.
+fn keeps_header() -> bool {
+    let differences = header::differences(&header::texts());
+    for difference in &differences {
+        println!("{difference}");
+    }
+    println!("header: {} constants and every prototype compared, {} differences", header::constants().len(), differences.len());
+    differences.is_empty()
+}
+
+/// Whether a header that is altered in one place is found to be.
+fn find_altered() -> bool {
+    let altered = header::altered();
+    let missed: Vec<_> = altered.iter().filter(|(_, texts)| header::differences(texts).is_empty()).collect();
+    for (alteration, _) in &missed {
+        println!("{alteration}: NOT FOUND");
+    }
+    println!("self-check: {} of {} altered headers found", altered.len() - missed.len(), altered.len());
+    missed.is_empty()
 }
 
 /// How many answers of each number each call gave that was compared.
@@ -190,7 +211,7 @@ fn main() -> ExitCode {
         return ExitCode::from(2);
     };
     if self_check {
-        return status(keeps_paper("independent", &INDEPENDENT) && find_wrong());
+        return status(keeps_paper("independent", &INDEPENDENT) && find_altered() && find_wrong());
     }
     if careful {
         return compare(&careful::CALLS, careful::WRITTEN, times, seeds);
@@ -202,6 +223,7 @@ fn main() -> ExitCode {
         };
     }
     match library() {
+        Some(_) if !keeps_header() => ExitCode::FAILURE,
         Some(calls) => compare(&calls, LINKED, times, seeds),
         None => {
             eprintln!("built without the library: `rt staticlib board`, then build again");
