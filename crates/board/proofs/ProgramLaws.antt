@@ -22,7 +22,7 @@ use Rattle.code.specs.Emitting.{programGiven}
 use Rattle.code.specs.declared.Translated.{Translated}
 use Rattle.planner.specs.Planning.{planGiven}
 use Rattle.planner.specs.declared.Planned.{Planned}
-use Rattle.packing.specs.Packed.{placeUnit, pack, packed}
+use Rattle.board.specs.Packed.{placeUnit, pack, packed}
 use Rattle.board.specs.Programs.{programEntries, inEntries, programAfter, PackedProgram, packedProgram, handed}
 
 -- ---- the table

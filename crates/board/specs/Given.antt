@@ -2,7 +2,7 @@
 use Prim.Native.Nat.{ℕ}
 use mathlib.Core.List.{List}
 use Rattle.rules.specs.Calls.{WithSheet, WithWork}
-use Rattle.packing.specs.Packed.{packed}
+use Rattle.board.specs.Packed.{packed}
 
 -- a packed answer with the two lent tables of a sheet
 pub record PackedSheet : Type 0 where

@@ -1,2 +1,3 @@
+pub mod Packed
 pub mod Given
 pub mod Programs

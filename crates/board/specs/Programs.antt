@@ -8,7 +8,7 @@ use Rattle.rules.specs.Answers.{ROOM, at}
 use Rattle.rules.specs.Tables.{padded, tableLeft}
 use Rattle.rules.specs.Calls.{WithProgram}
 use Rattle.rules.specs.declared.program.ProgramHead.{ProgramHead}
-use Rattle.packing.specs.Packed.{packed}
+use Rattle.board.specs.Packed.{packed}
 
 abbrev pub headOf : (d f prologue body epilogue : ℕ) → ProgramHead
 headOf d f prologue body epilogue = record { d = d; f = f; prologue = prologue; body = body; epilogue = epilogue }

@@ -1,24 +1,18 @@
 // The library for callers in C and Rust: each public call under one name, with numbers and lent tables only. A lent table is a
 // pointer and then its length. docs/CALLERS.md has every call and every answer.
+mod packing;
 mod programs;
 
+use crate::packing::packed;
 use crate::programs::PROGRAM_ENTRIES;
 use crate::programs::leave_program;
-use packing::ROOM;
-use packing::joined;
-use packing::packed_check;
-use packing::packed_offset;
-use packing::packed_place;
-use packing::packed_plain;
-use packing::packed_plan;
-use packing::packed_read;
-use packing::packed_run;
-use packing::packed_translate;
+use rules::answers::PlanAnswer;
+use rules::answers::TranslateAnswer;
 use rules::program::ProgramHead;
 ghost use mathlib.Core.Path.{_≡_};
 ghost use Rattle.rules.specs.Limits.{vectorBytes};
 ghost use Rattle.rules.specs.Calls.{reading, checking, offsetChecking, looping, placing, translating, planning, running};
-ghost use Rattle.packing.specs.Packed.{packed};
+ghost use Rattle.board.specs.Packed.{packed};
 ghost use Rattle.board.specs.Given.{packedSheet, ofWithSheet, packedWork, ofWithWork};
 ghost use Rattle.board.specs.Programs.{headOf, packedProgram, handed};
 
@@ -28,7 +22,7 @@ pub extern "C" fn sinkerjaw_read(text: &[u8], head: &mut [u64], nodes: &mut [u64
     ensures { λ r. ⌜ packedSheet r (now (head .exit)) (now (nodes .exit)) ≡ ofWithSheet (reading (now (text .entry)) (now (head .entry)) (now (nodes .entry))) ⌝ }
 {
     let answer = sheet::read(text, head, nodes);
-    packed_read(answer)
+    packed(numbers::of_read(answer))
 }
 
 // Checks a sheet or graph as if it were read.
@@ -37,7 +31,7 @@ pub extern "C" fn sinkerjaw_check(head: &[u64], nodes: &[u64]) -> u64
     ensures { λ r. ⌜ r ≡ packed (checking vectorBytes (now (head .entry)) (now (nodes .entry))) ⌝ }
 {
     let answer = graph::check(head, nodes);
-    packed_check(answer)
+    packed(numbers::of_check(answer))
 }
 
 // Checks a graph as if it were read, and its offsets.
@@ -46,7 +40,7 @@ pub extern "C" fn sinkerjaw_offset_check(head: &[u64], nodes: &[u64]) -> u64
     ensures { λ r. ⌜ r ≡ packed (offsetChecking vectorBytes (now (head .entry)) (now (nodes .entry))) ⌝ }
 {
     let answer = offsets::offset_check(head, nodes);
-    packed_offset(answer)
+    packed(numbers::of_offset(answer))
 }
 
 // Does a loop element by element.
@@ -55,7 +49,7 @@ pub extern "C" fn sinkerjaw_plain(head: &[u64], nodes: &[u64], work: &mut [u8], 
     ensures { λ r. ⌜ packedWork r (now (work .exit)) ≡ ofWithWork (looping vectorBytes (now (head .entry)) (now (nodes .entry)) (now (work .entry)) (now (table .entry))) ⌝ }
 {
     let answer = plain::run_loop(head, nodes, work, table);
-    packed_plain(answer)
+    packed(numbers::of_plain(answer))
 }
 
 // Puts shifts into a bare sheet by one of four rules.
@@ -70,7 +64,7 @@ pub extern "C" fn sinkerjaw_place(
     ensures { λ r. ⌜ packedSheet r (now («placed_head» .exit)) (now («placed_nodes» .exit)) ≡ ofWithSheet (placing vectorBytes rule (now (head .entry)) (now (nodes .entry)) (now («placed_head» .entry)) (now («placed_nodes» .entry))) ⌝ }
 {
     let answer = placing::place(rule, head, nodes, placed_head, placed_nodes);
-    packed_place(answer)
+    packed(numbers::of_place(answer))
 }
 
 // Translates a graph into a program for windows of so many bytes: its head in the program table, its sections in three more.
@@ -88,12 +82,12 @@ pub extern "C" fn sinkerjaw_translate(
     ensures { λ r. ⌜ packedProgram r (now (program .exit)) (now (prologue .exit)) (now (body .exit)) (now (epilogue .exit)) ≡ handed (now (program .entry)) (now (prologue .entry)) (now (body .entry)) (now (epilogue .entry)) (translating vectorBytes (now (head .entry)) (now (nodes .entry)) «work_len» «table_len» (now (prologue .entry)) (now (body .entry)) (now (epilogue .entry))) ⌝ }
 {
     if program.len() < PROGRAM_ENTRIES {
-        return joined(ROOM, 0, 0);
+        return packed(numbers::of_translate(TranslateAnswer::Room));
     }
     let made = code::translate(head, nodes, work_len, table_len, prologue, body, epilogue);
     let told = made.answer;
     let made_head = made.head;
-    let answer = packed_translate(told);
+    let answer = packed(numbers::of_translate(told));
     leave_program(answer, made_head, program);
     answer
 }
@@ -114,7 +108,7 @@ pub extern "C" fn sinkerjaw_plan(
     ensures { λ r. ⌜ packedProgram r (now (program .exit)) (now (prologue .exit)) (now (body .exit)) (now (epilogue .exit)) ≡ handed (now (program .entry)) (now (prologue .entry)) (now (body .entry)) (now (epilogue .entry)) (planning vectorBytes rule (now (head .entry)) (now (nodes .entry)) «work_len» «table_len» (now (prologue .entry)) (now (body .entry)) (now (epilogue .entry))) ⌝ }
 {
     if program.len() < PROGRAM_ENTRIES {
-        return joined(ROOM, 0, 0);
+        return packed(numbers::of_plan(PlanAnswer::Room));
     }
     let made = planner::plan(
         rule,
@@ -128,7 +122,7 @@ pub extern "C" fn sinkerjaw_plan(
     );
     let told = made.answer;
     let made_head = made.head;
-    let answer = packed_plan(told);
+    let answer = packed(numbers::of_plan(told));
     leave_program(answer, made_head, program);
     answer
 }
@@ -158,5 +152,5 @@ pub extern "C" fn sinkerjaw_run(
         epilogue: epilogue_rows,
     };
     let answer = machine::run(head, prologue, body, epilogue, budget, work, table);
-    packed_run(answer)
+    packed(numbers::of_run(answer))
 }

@@ -1,10 +1,12 @@
 // The program table: the head of a program, which C is lent a table for where Rattle has a struct.
-use packing::ROOM;
 use rules::program::ProgramHead;
 ghost use mathlib.Core.Path.{_≡_};
 ghost use Prim.Native.Nat.{_≤_};
 ghost use lib.ListN.{length};
 ghost use Rattle.board.specs.Programs.{programEntries, programAfter};
+
+// A packed ROOM: its place and steps are 0.
+const ROOM: u64 = 1;
 
 pub(crate) const PROGRAM_ENTRIES: usize = 5;
 

@@ -1,5 +1,6 @@
 -- The call meets the definition, its answer is packed, and what it leaves is left.
-use mathlib.Core.Path.{ap}
+use mathlib.Core.Path.{ap, _∙_}
+use Rattle.board.specs.Packed.{packed}
 use Rattle.board.specs.Given.{ofWithSheet}
 use borrow.Author.Needs.{needs}
 use Rattle.board.proofs.sinkerjaw_place.Statement.{statement}
@@ -8,8 +9,11 @@ use Rattle.board.proofs.sinkerjaw_place.Tie as tie
 place-requires : tie.Need-place-requires
 place-requires c κs = search needs
 
-packed-place-requires : tie.Need-packed-place-requires
-packed-place-requires c κs = search needs
+of-place-requires : tie.Need-of-place-requires
+of-place-requires c κs = search needs
+
+packed-requires : tie.Need-packed-requires
+packed-requires c κs = search needs
 
 same-length : tie.Need-same-length
 same-length c = search needs
@@ -18,7 +22,7 @@ same-length-2 : tie.Need-same-length-2
 same-length-2 c = search needs
 
 returns : tie.Need-returns
-returns c = rw (c .packed-place .ensures) (ap ofWithSheet (c .before .before .before .before .before .place .ensures))
+returns c = rw (c .packed .ensures ∙ ap packed (c .before .of-place .ensures)) (ap ofWithSheet (c .before .before .before .before .before .before .place .ensures))
 
 pub sinkerjaw-place-spec : {M : Type 1} → statement M
-sinkerjaw-place-spec = tie.close (tie.spec place-requires packed-place-requires same-length same-length-2 returns)
+sinkerjaw-place-spec = tie.close (tie.spec place-requires of-place-requires packed-requires same-length same-length-2 returns)
