@@ -150,7 +150,8 @@ fn shift_frame(text: &[u8], at: usize) -> Frame
     joined(SHIFT_KIND, x, y, Spelling::Number(0), next)
 }
 
-// A frame on a line after the first, which no header is. No kind's first digit is another than 0, and what is no digit counts as 16.
+// A frame on a line after the first, which no header is. The first digit of every kind is 0; a byte that is no digit counts as 16,
+// and so is no kind.
 pub(crate) fn later_frame(text: &[u8], at: usize) -> Frame
     requires { ⌜ at < textMost ⌝ }
     ensures { λ r. ⌜ r ≡ laterOf (frameAt (now (text .entry)) at) ⌝ }
