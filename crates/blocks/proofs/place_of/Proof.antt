@@ -16,28 +16,31 @@ returns : tie.Need-returns
 returns c =
     let n = c .before .near in
     let a = c .before .before .args in
-    let l : a .len < 18446744073709551616 = search needs in
-    let b : a .address / 16 + n .result ≡ a .address / 16 + min (a .pass .0) 2305843009213693952 = rw (n .ensures) in
+    let l : a .len < 9223372036854775808 = search needs in
+    let b : a .address / 16 + n .result ≡ a .address / 16 + min (a .pass .0) 576460752437641216 = rw (n .ensures) in
     sym (below-outside (a .address) (a .pass .0) (a .len) _ l b (c .if1 .taken))
+
+mul-first : tie.Need-mul-first
+mul-first c = search needs
+
+add-end : tie.Need-add-end
+add-end c = search needs
 
 returns-2 : tie.Need-returns-2
 returns-2 c =
     let n = c .before .before .near in
     let a = c .before .before .before .args in
-    let l : a .len < 18446744073709551616 = search needs in
-    let b : a .address / 16 + n .result ≡ a .address / 16 + min (a .pass .0) 2305843009213693952 = rw (n .ensures) in
+    let l : a .len < 9223372036854775808 = search needs in
+    let b : a .address / 16 + n .result ≡ a .address / 16 + min (a .pass .0) 576460752437641216 = rw (n .ensures) in
     sym (beyond-outside (a .address) (a .pass .0) (a .len) _ l b (c .before .if1 .left) (c .if2 .taken))
-
-mul-t8 : tie.Need-mul-t8
-mul-t8 c = search needs
 
 returns-3 : tie.Need-returns-3
 returns-3 c =
     let n = c .before .before .near in
     let a = c .before .before .before .args in
-    let l : a .len < 18446744073709551616 = search needs in
-    let b : a .address / 16 + n .result ≡ a .address / 16 + min (a .pass .0) 2305843009213693952 = rw (n .ensures) in
+    let l : a .len < 9223372036854775808 = search needs in
+    let b : a .address / 16 + n .result ≡ a .address / 16 + min (a .pass .0) 576460752437641216 = rw (n .ensures) in
     sym (within-inside (a .address) (a .pass .0) (a .len) _ l b (c .before .if1 .left) (c .if2 .left))
 
 pub place-of-spec : {M : Type 1} → statement M
-place-of-spec = tie.close (tie.spec near-requires add-block returns returns-2 mul-t8 returns-3)
+place-of-spec = tie.close (tie.spec near-requires add-block returns mul-first add-end returns-2 returns-3)
