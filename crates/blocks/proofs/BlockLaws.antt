@@ -14,7 +14,7 @@ use Rattle.rules.specs.Trees.{bytes}
 use Rattle.rules.specs.PlainLoop.{window}
 use Rattle.rules.specs.Vectors.{blockZero, blockOf, inside, loaded, stored}
 use Rattle.rules.specs.declared.units.ByteOffset.{ByteOffset}
-use Rattle.blocks.specs.Places.{placeOf}
+use Rattle.blocks.specs.Places.{placeOf, tooMany, far}
 use Rattle.blocks.specs.Storing.{stores, storing}
 use Rattle.blocks.specs.declared.Place.the-variants.{Inside, Outside}
 
@@ -29,11 +29,7 @@ window-is-table (suc w) work table ne = refl
 
 -- ---- the place of an address in a pass
 
--- 2^59 + 2^27: a block so many passes on lies past every window of fewer than 2^63 bytes
-abbrev far : ℕ
-far = 576460752437641216
-
-module _ (a j len block : ℕ) (l : len < 9223372036854775808) (b : block ≡ a / 16 + min j far) where
+module _ (a j len block : ℕ) (l : len < tooMany) (b : block ≡ a / 16 + min j far) where
   pub below-outside : block < 134217728 → placeOf vectorBytes len (blockOf vectorBytes a j) ≡ Outside
   unfolding inside blockZero
   below-outside h =

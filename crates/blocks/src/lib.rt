@@ -8,7 +8,7 @@ ghost use lib.ListN.{length, take, drop};
 ghost use Rattle.rules.specs.Limits.{vectorBytes};
 ghost use Rattle.rules.specs.PlainLoop.{window};
 ghost use Rattle.rules.specs.Vectors.{blockOf, loaded};
-ghost use Rattle.blocks.specs.Places.{placeOf};
+ghost use Rattle.blocks.specs.Places.{placeOf, tooMany, far};
 ghost use Rattle.blocks.specs.Storing.{stores, storing};
 
 // V, and the number of the block at address 0: an address is held with 2^31 added.
@@ -27,14 +27,14 @@ enum Place {
 
 // Every pass from FAR on is outside, so none has to be counted further.
 fn near(pass: VectorNumber) -> u64
-    ensures { λ r. ⌜ r ≡ min (pass .0) 576460752437641216 ⌝ }
+    ensures { λ r. ⌜ r ≡ min (pass .0) far ⌝ }
 {
     if pass.0 < FAR { pass.0 } else { FAR }
 }
 
 // The place of the block that holds address + 16 * pass, in a window of len bytes.
 fn place_of(address: u32, pass: VectorNumber, len: usize) -> Place
-    requires { ⌜ len < 9223372036854775808 ⌝ }
+    requires { ⌜ len < tooMany ⌝ }
     ensures { λ r. ⌜ r ≡ placeOf vectorBytes len (blockOf vectorBytes address (pass .0)) ⌝ }
 {
     let block = (address as u64) / V + near(pass);
@@ -65,7 +65,7 @@ fn fetch<'a>(work: &'a [u8], table: &'a [u8], from: u32, start: ByteOffset) -> &
 }
 
 fn window_len(work: &[u8], table: &[u8], from: u32) -> usize
-    ensures { λ r. ⌜ (r ≡ length (window from (now (work .entry)) (now (table .entry)))) × (r < 9223372036854775808) ⌝ }
+    ensures { λ r. ⌜ (r ≡ length (window from (now (work .entry)) (now (table .entry)))) × (r < tooMany) ⌝ }
 {
     if from == 0 { work.len() } else { table.len() }
 }

@@ -2,6 +2,7 @@
 use Prim.Native.Nat.{_+_, _-_, _*_, _/_, _≤_, _<_, min}
 use native.Mathlib.Omega.{arith}
 use mathlib.Core.Path.{_≡_, sym}
+use Rattle.blocks.specs.Places.{tooMany, far}
 use Rattle.blocks.proofs.BlockLaws.{below-outside, beyond-outside, within-inside}
 use borrow.Author.Needs.{needs}
 use Rattle.blocks.proofs.place_of.Statement.{statement}
@@ -17,9 +18,9 @@ returns : tie.Need-returns
 returns c =
     let n = c .before .near in
     let a = c .before .before .args in
-    let l : a .len < 9223372036854775808 = search needs in
+    let l : a .len < tooMany = search needs in
     let block = a .address / 16 + n .result in
-    let b : block ≡ a .address / 16 + min (a .pass .0) 576460752437641216 = rw (n .ensures) in
+    let b : block ≡ a .address / 16 + min (a .pass .0) far = rw (n .ensures) in
     let under : block < 134217728 = omega (arith, c .if1 .taken) in
     sym (below-outside (a .address) (a .pass .0) (a .len) block l b under)
 
@@ -33,9 +34,9 @@ returns-2 : tie.Need-returns-2
 returns-2 c =
     let n = c .before .before .near in
     let a = c .before .before .before .args in
-    let l : a .len < 9223372036854775808 = search needs in
+    let l : a .len < tooMany = search needs in
     let block = a .address / 16 + n .result in
-    let b : block ≡ a .address / 16 + min (a .pass .0) 576460752437641216 = rw (n .ensures) in
+    let b : block ≡ a .address / 16 + min (a .pass .0) far = rw (n .ensures) in
     let from : 134217728 ≤ block = omega (arith, c .before .if1 .left) in
     let past : a .len < 16 * (block - 134217728) + 16 = omega (arith, c .if2 .taken) in
     sym (beyond-outside (a .address) (a .pass .0) (a .len) block l b from past)
@@ -44,9 +45,9 @@ returns-3 : tie.Need-returns-3
 returns-3 c =
     let n = c .before .before .near in
     let a = c .before .before .before .args in
-    let l : a .len < 9223372036854775808 = search needs in
+    let l : a .len < tooMany = search needs in
     let block = a .address / 16 + n .result in
-    let b : block ≡ a .address / 16 + min (a .pass .0) 576460752437641216 = rw (n .ensures) in
+    let b : block ≡ a .address / 16 + min (a .pass .0) far = rw (n .ensures) in
     let from : 134217728 ≤ block = omega (arith, c .before .if1 .left) in
     let up-to : 16 * (block - 134217728) + 16 ≤ a .len = omega (arith, c .if2 .left) in
     sym (within-inside (a .address) (a .pass .0) (a .len) block l b from up-to)
