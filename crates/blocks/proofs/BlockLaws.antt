@@ -14,7 +14,7 @@ use Rattle.rules.specs.Trees.{bytes}
 use Rattle.rules.specs.PlainLoop.{window}
 use Rattle.rules.specs.Vectors.{blockZero, blockOf, inside, loaded, stored}
 use Rattle.rules.specs.declared.units.ByteOffset.{ByteOffset}
-use Rattle.blocks.specs.Places.{placeOf}
+use Rattle.blocks.specs.Places.{placeOf, tooMany, far}
 use Rattle.blocks.specs.Storing.{stores, storing}
 use Rattle.blocks.specs.declared.Place.the-variants.{Inside, Outside}
 
@@ -29,31 +29,26 @@ window-is-table (suc w) work table ne = refl
 
 -- ---- the place of an address in a pass
 
--- 2^61: a block so many passes on lies past every window
-abbrev far : ℕ
-far = 2305843009213693952
-
-module _ (a j len block : ℕ) (l : len < 18446744073709551616) (b : block ≡ a / 16 + min j far) where
+module _ (a j len block : ℕ) (l : len < tooMany) (b : block ≡ a / 16 + min j far) where
   pub below-outside : block < 134217728 → placeOf vectorBytes len (blockOf vectorBytes a j) ≡ Outside
   unfolding inside blockZero
   below-outside h =
       let under : blockOf vectorBytes a j < 134217728 = omega (arith, b, h) in
       rw (lt-leb 134217728 (blockOf vectorBytes a j) under)
 
-  pub beyond-outside : 134217728 ≤ block → len / 16 ≤ block - 134217728 → placeOf vectorBytes len (blockOf vectorBytes a j) ≡ Outside
+  pub beyond-outside : 134217728 ≤ block → len < 16 * (block - 134217728) + 16 → placeOf vectorBytes len (blockOf vectorBytes a j) ≡ Outside
   unfolding inside blockZero
   beyond-outside h k =
       let from : 134217728 ≤ blockOf vectorBytes a j = omega (arith, b, h) in
       let past : len < 16 * (blockOf vectorBytes a j - 134217728) + 16 = omega (arith, b, h, k) in
       rw (le-leb 134217728 (blockOf vectorBytes a j) from, lt-leb (16 * (blockOf vectorBytes a j - 134217728) + 16) len past)
 
-  pub within-inside : 134217728 ≤ block → block - 134217728 < len / 16
+  pub within-inside : 134217728 ≤ block → 16 * (block - 134217728) + 16 ≤ len
       → placeOf vectorBytes len (blockOf vectorBytes a j) ≡ Inside (bytes (16 * (block - 134217728)))
   unfolding inside blockZero
   within-inside h k =
       let same : blockOf vectorBytes a j ≡ block = omega (arith, l, b, h, k) in
-      let up-to : 16 * (block - 134217728) + 16 ≤ len = omega (arith, k) in
-      rw (same, le-leb 134217728 block h, le-leb (16 * (block - 134217728) + 16) len up-to)
+      rw (same, le-leb 134217728 block h, le-leb (16 * (block - 134217728) + 16) len k)
 
 -- ---- what a place says
 

@@ -3,12 +3,12 @@
 use rules::units::ByteOffset;
 use rules::units::VectorNumber;
 ghost use mathlib.Core.Path.{_≡_};
-ghost use Prim.Native.Nat.{_+_, _≤_, min};
+ghost use Prim.Native.Nat.{_+_, _≤_, _<_, min};
 ghost use lib.ListN.{length, take, drop};
 ghost use Rattle.rules.specs.Limits.{vectorBytes};
 ghost use Rattle.rules.specs.PlainLoop.{window};
 ghost use Rattle.rules.specs.Vectors.{blockOf, loaded};
-ghost use Rattle.blocks.specs.Places.{placeOf};
+ghost use Rattle.blocks.specs.Places.{placeOf, tooMany, far};
 ghost use Rattle.blocks.specs.Storing.{stores, storing};
 
 // V, and the number of the block at address 0: an address is held with 2^31 added.
@@ -16,8 +16,8 @@ const V: u64 = 16;
 
 const BLOCK_ZERO: u64 = 134217728;
 
-// 2^61: no window reaches so many blocks on, since a length is below 2^64.
-const FAR: u64 = 2305843009213693952;
+// A pass whose block lies past every window at every address: a window has fewer than 2^63 bytes, which is 2^59 blocks.
+const FAR: u64 = BLOCK_ZERO + 576460752303423488;
 
 // Where a block lies in a window.
 enum Place {
@@ -27,24 +27,26 @@ enum Place {
 
 // Every pass from FAR on is outside, so none has to be counted further.
 fn near(pass: VectorNumber) -> u64
-    ensures { λ r. ⌜ r ≡ min (pass .0) 2305843009213693952 ⌝ }
+    ensures { λ r. ⌜ r ≡ min (pass .0) far ⌝ }
 {
     if pass.0 < FAR { pass.0 } else { FAR }
 }
 
 // The place of the block that holds address + 16 * pass, in a window of len bytes.
 fn place_of(address: u32, pass: VectorNumber, len: usize) -> Place
+    requires { ⌜ len < tooMany ⌝ }
     ensures { λ r. ⌜ r ≡ placeOf vectorBytes len (blockOf vectorBytes address (pass .0)) ⌝ }
 {
     let block = (address as u64) / V + near(pass);
     if block < BLOCK_ZERO {
         return Place::Outside;
     }
-    let number = block - BLOCK_ZERO;
-    if (len as u64) / V <= number {
+    let first = V * (block - BLOCK_ZERO);
+    let end = first + V;
+    if (len as u64) < end {
         return Place::Outside;
     }
-    Place::Inside(ByteOffset(V * number))
+    Place::Inside(ByteOffset(first))
 }
 
 // The sixteen-byte part of work or of table that starts at a byte offset.
@@ -63,7 +65,7 @@ fn fetch<'a>(work: &'a [u8], table: &'a [u8], from: u32, start: ByteOffset) -> &
 }
 
 fn window_len(work: &[u8], table: &[u8], from: u32) -> usize
-    ensures { λ r. ⌜ r ≡ length (window from (now (work .entry)) (now (table .entry))) ⌝ }
+    ensures { λ r. ⌜ (r ≡ length (window from (now (work .entry)) (now (table .entry)))) × (r < tooMany) ⌝ }
 {
     if from == 0 { work.len() } else { table.len() }
 }

@@ -1,4 +1,4 @@
-// An instruction of each kind but the splat, in one pass (document 01, "Vector code"): load, the operations, vshiftpair, vsplice and
+// An instruction of each kind but the splat, in one pass (document 01, "Vector code"): load, the operations, vshiftpair, vsplice,
 // store. False is a FAULT, and then nothing is changed.
 use rules::program::Instruction;
 use rules::units::VectorNumber;

@@ -87,11 +87,11 @@ module _ (m : ℕ) (l : m < 8) where
 
 -- ---- two vectors of sixteen bytes joined, by their four elements of eight
 
-pub straddled : (v : List ℕ) (at m low high : ℕ) → Bytes v → m < 8 → low ≡ element 8 v at → high ≡ element 8 v (at + 8)
-    → low / 256 ^ m + 256 ^ (8 - m) * (high % 256 ^ m) ≡ element 8 v (at + m)
-straddled v at m low high b l e f =
+pub straddled : (v : List ℕ) (at m low high to : ℕ) → Bytes v → m < 8 → low ≡ element 8 v at → high ≡ element 8 v (at + 8) → at + m ≡ to
+    → low / 256 ^ m + 256 ^ (8 - m) * (high % 256 ^ m) ≡ element 8 v to
+straddled v at m low high to b l e f g =
     let s : m + (8 - m) ≡ 8 = omega (arith, l) in
-    rw (e, f) (rw s at (element-straddling m (8 - m) v at b))
+    rw (← g, e, f) (rw s at (element-straddling m (8 - m) v at b))
 
 -- a byte of two lists joined
 joined-left : (v w : List ℕ) (k : ℕ) → k < length v → getD v k 0 ≡ getD (v ++ w) k 0

@@ -17,7 +17,7 @@ enum-known-place c = search needs
 fetch-requires : tie.Need-fetch-requires
 fetch-requires c κs =
     let b = c .before .before .before in
-    place-inside _ _ _ _ (rw (b .before .window-len .ensures) at (sym (b .place-of .ensures) ∙ c .before .place .given .1)) .fits
+    place-inside _ _ _ _ (rw (b .before .window-len .ensures .0) at (sym (b .place-of .ensures) ∙ c .before .place .given .1)) .fits
 
 vector-of-requires : tie.Need-vector-of-requires
 vector-of-requires c κs = rw (c .fetch .ensures) (length-part _ _ (fetch-requires (c .before) κs))
@@ -29,12 +29,12 @@ returns : tie.Need-returns
 returns c =
     let b = c .before .before .before .before .before in
     c .vector-of .ensures ∙ c .before .fetch .ensures
-    ∙ sym (loaded-part _ _ _ _ (rw (b .before .window-len .ensures) at (sym (b .place-of .ensures) ∙ c .before .before .before .place .given .1)))
+    ∙ sym (loaded-part _ _ _ _ (rw (b .before .window-len .ensures .0) at (sym (b .place-of .ensures) ∙ c .before .before .before .place .given .1)))
 
 returns-2 : tie.Need-returns-2
 returns-2 c =
     let b = c .before .before in
-    sym (loaded-zeros _ _ _ (rw (b .before .window-len .ensures) at (sym (b .place-of .ensures) ∙ c .enum-told .given .1)))
+    sym (loaded-zeros _ _ _ (rw (b .before .window-len .ensures .0) at (sym (b .place-of .ensures) ∙ c .enum-told .given .1)))
 
 pub load-spec : {M : Type 1} → statement M
 load-spec =

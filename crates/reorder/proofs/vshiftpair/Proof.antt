@@ -1,5 +1,5 @@
 -- `vshiftpair`: two of the elements that straddle neighbours among the four of the pair.
-use Prim.Native.Nat.{ℕ, _+_, _%_, _<_}
+use Prim.Native.Nat.{ℕ, _+_, _%_}
 use native.Mathlib.Omega.{arith}
 use borrow.Author.Needs.{needs}
 use mathlib.Core.Path.{_≡_, _∙_}
@@ -44,15 +44,13 @@ returns c =
     let n2 : length v2 ≡ 16 = search needs in
     let b = joined-bytes v1 v2 n1 n2 (bytes-of v1 (λ i. search needs)) (bytes-of v2 (λ i. search needs)) in
     let l = a .amount % 16 in
-    let m : l % 8 < 8 = omega arith in
-    let low : 0 + l % 8 ≡ l = omega (arith, c .before .before .before .before .if1 .taken) in
-    let high : 8 + l % 8 ≡ l + 8 = omega (arith, c .before .before .before .before .if1 .taken) in
+    let below = c .before .before .before .before .if1 .taken in
     let second = s .before .before .before .eight-at .ensures ∙ second-of-pair v1 v2 n1 n2 in
     let third = s .before .eight-at2 .ensures ∙ third-of-pair v1 v2 n1 n2 in
     let first = c .before .before .eight-at3 .ensures ∙ first-of-pair v1 v2 n1 n2 in
-    let x = c .before .straddling2 .ensures ∙ straddled (v1 ++ v2) 0 (l % 8) _ _ b m first second in
-    let y = s .straddling .ensures ∙ straddled (v1 ++ v2) 8 (l % 8) _ _ b m second third in
-    c .join-eight .ensures ∙ pair-of-elements v1 v2 n1 n2 l _ _ b (omega arith) (rw low at x) (rw high at y)
+    let x = c .before .straddling2 .ensures ∙ straddled (v1 ++ v2) 0 _ _ _ l b (omega arith) first second (omega (arith, below)) in
+    let y = s .straddling .ensures ∙ straddled (v1 ++ v2) 8 _ _ _ (l + 8) b (omega arith) second third (omega (arith, below)) in
+    c .join-eight .ensures ∙ pair-of-elements v1 v2 n1 n2 l _ _ b (omega arith) x y
 
 eight-at-requires-4 : tie.Need-eight-at-requires-4
 eight-at-requires-4 c κs = search needs
@@ -73,15 +71,13 @@ returns-2 c =
     let n2 : length v2 ≡ 16 = search needs in
     let b = joined-bytes v1 v2 n1 n2 (bytes-of v1 (λ i. search needs)) (bytes-of v2 (λ i. search needs)) in
     let l = a .amount % 16 in
-    let m : l % 8 < 8 = omega arith in
-    let low : 8 + l % 8 ≡ l = omega (arith, c .before .before .before .before .if1 .left) in
-    let high : 16 + l % 8 ≡ l + 8 = omega (arith, c .before .before .before .before .if1 .left) in
+    let above = c .before .before .before .before .if1 .left in
     let second = s .before .before .before .eight-at .ensures ∙ second-of-pair v1 v2 n1 n2 in
     let third = s .before .eight-at2 .ensures ∙ third-of-pair v1 v2 n1 n2 in
     let fourth = c .before .before .eight-at4 .ensures ∙ fourth-of-pair v1 v2 n1 n2 in
-    let x = s .straddling .ensures ∙ straddled (v1 ++ v2) 8 (l % 8) _ _ b m second third in
-    let y = c .before .straddling3 .ensures ∙ straddled (v1 ++ v2) 16 (l % 8) _ _ b m third fourth in
-    c .join-eight2 .ensures ∙ pair-of-elements v1 v2 n1 n2 l _ _ b (omega arith) (rw low at x) (rw high at y)
+    let x = s .straddling .ensures ∙ straddled (v1 ++ v2) 8 _ _ _ l b (omega arith) second third (omega (arith, above)) in
+    let y = c .before .straddling3 .ensures ∙ straddled (v1 ++ v2) 16 _ _ _ (l + 8) b (omega arith) third fourth (omega (arith, above)) in
+    c .join-eight2 .ensures ∙ pair-of-elements v1 v2 n1 n2 l _ _ b (omega arith) x y
 
 pub vshiftpair-spec : {M : Type 1} → statement M
 vshiftpair-spec =

@@ -1,7 +1,8 @@
 -- `eight_at`: two elements of half its width, the lower first.
-use Prim.Native.Nat.{_+_, _*_, _%_}
+use Prim.Native.Nat.{ℕ, _+_, _*_, _%_}
 use native.Mathlib.Omega.{arith}
-use mathlib.Core.Path.{_≡_}
+use mathlib.Core.Path.{_≡_, ap, _∙_}
+use Rattle.rules.specs.Elements.{element}
 use Rattle.theory.proofs.ElementLaws.{element-join}
 use borrow.Author.Needs.{needs}
 use Rattle.vectors.proofs.eight_at.Statement.{statement}
@@ -34,17 +35,13 @@ add-result c = search needs
 returns : tie.Need-returns
 returns c =
     let a = c .before .before .before .before .args in
+    let v = a .v .now in
     let at = a .k % 2 * 8 in
-    let low : a .k % 2 * 2 % 4 * 4 ≡ at = omega arith in
-    let high : (a .k % 2 * 2 + 1) % 4 * 4 ≡ at + 4 = omega arith in
-    omega (
-      arith,
-      rw low at (c .before .before .before .four-at .ensures),
-      c .before .before .wide-64 .ensures,
-      rw high at (c .before .four-at2 .ensures),
-      c .wide-642 .ensures,
-      element-join 4 4 (a .v .now) at,
-    )
+    let low : c .before .before .before .four-at .result ≡ element 4 v at =
+    c .before .before .before .four-at .ensures ∙ ap (λ (x : ℕ). element 4 v x) (omega arith) in
+    let high : c .before .four-at2 .result ≡ element 4 v (at + 4) =
+    c .before .four-at2 .ensures ∙ ap (λ (x : ℕ). element 4 v x) (omega arith) in
+    omega (arith, low, c .before .before .wide-64 .ensures, high, c .wide-642 .ensures, element-join 4 4 v at)
 
 pub eight-at-spec : {M : Type 1} → statement M
 eight-at-spec =

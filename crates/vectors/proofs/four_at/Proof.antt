@@ -1,7 +1,8 @@
 -- `four_at`: two elements of half its width, the lower first.
-use Prim.Native.Nat.{_+_, _*_, _%_}
+use Prim.Native.Nat.{ℕ, _+_, _*_, _%_}
 use native.Mathlib.Omega.{arith}
-use mathlib.Core.Path.{_≡_}
+use mathlib.Core.Path.{_≡_, ap, _∙_}
+use Rattle.rules.specs.Elements.{element}
 use Rattle.theory.proofs.ElementLaws.{element-join}
 use borrow.Author.Needs.{needs}
 use Rattle.vectors.proofs.four_at.Statement.{statement}
@@ -34,17 +35,13 @@ add-result c = search needs
 returns : tie.Need-returns
 returns c =
     let a = c .before .before .before .before .args in
+    let v = a .v .now in
     let at = a .k % 4 * 4 in
-    let low : a .k % 4 * 2 % 8 * 2 ≡ at = omega arith in
-    let high : (a .k % 4 * 2 + 1) % 8 * 2 ≡ at + 2 = omega arith in
-    omega (
-      arith,
-      rw low at (c .before .before .before .two-at .ensures),
-      c .before .before .wide-32 .ensures,
-      rw high at (c .before .two-at2 .ensures),
-      c .wide-322 .ensures,
-      element-join 2 2 (a .v .now) at,
-    )
+    let low : c .before .before .before .two-at .result ≡ element 2 v at =
+    c .before .before .before .two-at .ensures ∙ ap (λ (x : ℕ). element 2 v x) (omega arith) in
+    let high : c .before .two-at2 .result ≡ element 2 v (at + 2) =
+    c .before .two-at2 .ensures ∙ ap (λ (x : ℕ). element 2 v x) (omega arith) in
+    omega (arith, low, c .before .before .wide-32 .ensures, high, c .wide-322 .ensures, element-join 2 2 v at)
 
 pub four-at-spec : {M : Type 1} → statement M
 four-at-spec =
