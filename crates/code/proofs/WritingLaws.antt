@@ -16,7 +16,7 @@ use Rattle.theory.proofs.RowLaws.{length-entries}
 use Rattle.emitting.specs.Putting.{cut, written, Handed, handed, putting}
 use Rattle.code.specs.Writing.{Written, Roomy}
 
-sets-append : (l : List ℕ) (i : ℕ) (xs ys : List ℕ) → sets (sets l i xs) (i + length xs) ys ≡ sets l i (xs ++ ys)
+pub sets-append : (l : List ℕ) (i : ℕ) (xs ys : List ℕ) → sets (sets l i xs) (i + length xs) ys ≡ sets l i (xs ++ ys)
 sets-append l i [] ys = rw (add-zero i)
 sets-append l i (x ∷ xs) ys = rw (add-suc i (length xs), ← suc-add i (length xs)) (sets-append (set l i x) (suc i) xs ys)
 

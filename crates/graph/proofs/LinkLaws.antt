@@ -170,7 +170,7 @@ linked-lower node left n k h l j p = l j (omega arith)
 
 -- ---- a graph that passes
 
-node-takes : (kind x y : ℕ) → inputs (nodeOf kind x y) ≡ takes kind
+pub node-takes : (kind x y : ℕ) → inputs (nodeOf kind x y) ≡ takes kind
 unfolding takes
 node-takes zero x y = refl
 node-takes (suc zero) x y = refl

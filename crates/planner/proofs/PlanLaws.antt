@@ -40,10 +40,10 @@ module _ (rule : ℕ) (head nodes : List ℕ) (workLen tableLen : ℕ) (prologue
   number : first (bareChecks vectorBytes rule head nodes workLen tableLen prologue body epilogue) .number ≡ DONE
   number = ap (λ (a : Answer). a .number) fine
 
-  abbrev ownHead : List ℕ
+  abbrev pub ownHead : List ℕ
   ownHead = replicate 10 0
 
-  abbrev ownNodes : List ℕ
+  abbrev pub ownNodes : List ℕ
   ownNodes = replicate 192 0
 
   -- placing into tables of the call's own is done
@@ -67,10 +67,10 @@ module _ (rule : ℕ) (head nodes : List ℕ) (workLen tableLen : ℕ) (prologue
       ∙ passes (alignCheck g) [] (c 5)
       ∙ none
 
-  abbrev placed : Graph
+  abbrev pub placed : Graph
   placed = placedGraph vectorBytes rule (graphOf head nodes)
 
-  placing-is : placing vectorBytes rule head nodes ownHead ownNodes
+  pub placing-is : placing vectorBytes rule head nodes ownHead ownNodes
       ≡ record { answer = done; head = padded 10 (headOf placed); nodes = padded 192 (placed .nodes) }
   unfolding placing
   placing-is = rw places

@@ -25,6 +25,7 @@ use Rattle.rules.specs.Code.{G, beside, pairUp, code, onlySection, prolo
 use Rattle.rules.specs.Tables.{Graph, padded, noProgram}
 use Rattle.rules.specs.Checks.{waits, ruleCheck, formCheck, bareCheck, windowCheck, alignCheck, boundsCheck, carryCheck, offsetCheck, longCheck}
 use Rattle.rules.specs.Calls.{WithProgram, WithWork, reading, checking, offsetChecking, placing, translating, planning, looping, running}
+use Rattle.rules.specs.Printing as Printing
 use Rattle.rules.specs.declared.program.ProgramHead.{ProgramHead}
 use Rattle.rules.specs.declared.nodes.Offset.the-variants.{At, Undefined}
 use Rattle.rules.specs.declared.answers.ReadAnswer.the-variants.{Done, Line, Range, Shape}
@@ -45,6 +46,12 @@ unfolding reading planning placing translating looping running checking offsetCh
     epilogueSection code beside pairUp plain value element operate negative signedLess runs step trace passes inPass blank
     fieldsAs reachesAs effectAs vsplat vop vshiftpair vsplice blockZero inside loaded stored
 the-calls = tt
+
+-- the printing programs
+the-programs : Unit {0}
+unfolding the-reader the-calls Printing.printed Printing.drawn Printing.placedLines Printing.placedFigures Printing.drawnFigures
+    Printing.sheetIn Printing.line Printing.hex Printing.digitByte
+the-programs = tt
 
 -- ---- the printed sheet
 
@@ -109,6 +116,35 @@ pub printed-sheet-is-read-and-placed :
     ≡ op 0 (shift 2 6 (load 0 2)) (shift 2 6 (load 1 18)) ∷ shift 2 6 (op 0 (load 0 2) (load 1 18)) ∷ [])
 unfolding the-reader treeOf waiting nodeAt place toward loadsTo inputsTo dominant stepsOf
 printed-sheet-is-read-and-placed = (refl, refl, refl, refl, refl)
+
+-- "Output"
+abbrev output : List ℕ
+output =
+    -- 0000000400170000013C
+    48 ∷ 48 ∷ 48 ∷ 48 ∷ 48 ∷ 48 ∷ 48 ∷ 52 ∷ 48 ∷ 48 ∷ 49 ∷ 55 ∷ 48 ∷ 48 ∷ 48 ∷ 48 ∷ 48 ∷ 49 ∷ 51 ∷ 67 ∷ 10
+    -- 01000003000B000000A0
+    ∷ 48 ∷ 49 ∷ 48 ∷ 48 ∷ 48 ∷ 48 ∷ 48 ∷ 51 ∷ 48 ∷ 48 ∷ 48 ∷ 66 ∷ 48 ∷ 48 ∷ 48 ∷ 48 ∷ 48 ∷ 48 ∷ 65 ∷ 48 ∷ 10
+    -- 02000003000B000000A0
+    ∷ 48 ∷ 50 ∷ 48 ∷ 48 ∷ 48 ∷ 48 ∷ 48 ∷ 51 ∷ 48 ∷ 48 ∷ 48 ∷ 66 ∷ 48 ∷ 48 ∷ 48 ∷ 48 ∷ 48 ∷ 48 ∷ 65 ∷ 48 ∷ 10
+    -- 03000002000F000000D4
+    ∷ 48 ∷ 51 ∷ 48 ∷ 48 ∷ 48 ∷ 48 ∷ 48 ∷ 50 ∷ 48 ∷ 48 ∷ 48 ∷ 70 ∷ 48 ∷ 48 ∷ 48 ∷ 48 ∷ 48 ∷ 48 ∷ 68 ∷ 52 ∷ 10 ∷ []
+
+-- what is printed where the answer is a refusal, the same but for the first two digits
+abbrev refusal : (answer : List ℕ) → List ℕ
+refusal answer = answer ++ (48 ∷ 48 ∷ 48 ∷ 48 ∷ 48 ∷ 48 ∷ 48 ∷ 48 ∷ 48 ∷ 48 ∷ 48 ∷ 48 ∷ 48 ∷ 48 ∷ 10 ∷ [])
+
+-- "a reading refusal stands on all four lines": the empty text is LINE on line 1. The printed sheet as it is drawn breaks an offset
+-- rule on line 4
+pub what-the-programs-print :
+    (Printing.printed printed ≡ output)
+    × (Printing.drawn printed ≡ 70 ∷ 70 ∷ refusal (48 ∷ 65 ∷ 48 ∷ 52 ∷ []))
+    × (Printing.printed []
+    ≡ 48 ∷ 48 ∷ refusal (48 ∷ 50 ∷ 48 ∷ 49 ∷ [])
+    ++ 48 ∷ 49 ∷ refusal (48 ∷ 50 ∷ 48 ∷ 49 ∷ [])
+    ++ 48 ∷ 50 ∷ refusal (48 ∷ 50 ∷ 48 ∷ 49 ∷ [])
+    ++ 48 ∷ 51 ∷ refusal (48 ∷ 50 ∷ 48 ∷ 49 ∷ []))
+unfolding the-programs
+what-the-programs-print = (refl, refl, refl)
 
 -- ---- operations
 

@@ -16,3 +16,4 @@ pub mod Code
 pub mod Tables
 pub mod Checks
 pub mod Calls
+pub mod Printing

@@ -77,3 +77,7 @@ rowEntries = 3
 
 abbrev pub instructionEntries : ℕ
 instructionEntries = 6
+
+-- "the first 2,048 bytes of standard input (no longer text can be a sheet, and they decide the answer)"
+abbrev pub textMost : ℕ
+textMost = 2048

@@ -2,6 +2,7 @@
 // proofs/; no code stands here.
 pub mod answers;
 pub mod nodes;
+pub mod printing;
 pub mod program;
 pub mod sheet;
 pub mod units;

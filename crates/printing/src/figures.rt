@@ -1,0 +1,219 @@
+// The figures of a line: of a refusal its number and place; on done the shifts, G and the steps of the loop's tree, taken from its
+// tables and its program.
+use rules::answers::PlanAnswer;
+use rules::answers::ReadAnswer;
+use rules::answers::TranslateAnswer;
+use rules::nodes::Node;
+use rules::printing::Figures;
+use rules::program::ProgramHead;
+ghost use mathlib.Core.Path.{_≡_};
+ghost use Rattle.rules.specs.Answers.{at, ofRead, ofTranslate, ofPlan};
+ghost use Rattle.rules.specs.Trees.{nodeAt};
+ghost use Rattle.rules.specs.Printing.{placedFigures, drawnFigures};
+ghost use Rattle.sheet.specs.Left.{sheetLeft};
+ghost use Rattle.printing.specs.Figuring.{refusal, shiftOf, shiftsIn, stepsIn, Countable, treeFigures};
+
+const HEAD_ENTRIES: usize = 10;
+
+const NODE_ENTRIES: usize = 192;
+
+// 1,024 rows of 6.
+const SECTION_ENTRIES: usize = 6144;
+
+// "takes both windows at 65,536 bytes"
+const WINDOW_BYTES: u64 = 65536;
+
+// The paper's numbers of the answers.
+const DONE: u64 = 0;
+
+const ROOM: u64 = 1;
+
+const LINE: u64 = 2;
+
+const RANGE: u64 = 3;
+
+const SHAPE: u64 = 4;
+
+const BARE: u64 = 5;
+
+const WINDOW: u64 = 6;
+
+const ALIGN: u64 = 7;
+
+const BOUNDS: u64 = 8;
+
+const CARRY: u64 = 9;
+
+const OFFSET: u64 = 10;
+
+const LONG: u64 = 11;
+
+fn refusal(number: u64, place: u64) -> Figures
+    ensures { λ r. ⌜ r ≡ refusal (at number place) ⌝ }
+{
+    Figures {
+        answer: number,
+        place: place,
+        shifts: 0,
+        size: 0,
+        steps: 0,
+    }
+}
+
+fn read_refusal(answer: ReadAnswer) -> Figures
+    ensures { λ r. ⌜ r ≡ refusal (ofRead answer) ⌝ }
+{
+    match answer {
+        ReadAnswer::Done => refusal(DONE, 0),
+        ReadAnswer::Room => refusal(ROOM, 0),
+        ReadAnswer::Line(place) => refusal(LINE, place),
+        ReadAnswer::Range(place) => refusal(RANGE, place),
+        ReadAnswer::Shape(place) => refusal(SHAPE, place),
+    }
+}
+
+fn translate_refusal(answer: TranslateAnswer) -> Figures
+    ensures { λ r. ⌜ r ≡ refusal (ofTranslate answer) ⌝ }
+{
+    match answer {
+        TranslateAnswer::Done => refusal(DONE, 0),
+        TranslateAnswer::Room => refusal(ROOM, 0),
+        TranslateAnswer::Range(place) => refusal(RANGE, place),
+        TranslateAnswer::Shape(place) => refusal(SHAPE, place),
+        TranslateAnswer::Window(place) => refusal(WINDOW, place),
+        TranslateAnswer::Align(place) => refusal(ALIGN, place),
+        TranslateAnswer::Bounds(place) => refusal(BOUNDS, place),
+        TranslateAnswer::Carry(place) => refusal(CARRY, place),
+        TranslateAnswer::Offset(place) => refusal(OFFSET, place),
+        TranslateAnswer::Long => refusal(LONG, 0),
+    }
+}
+
+fn plan_refusal(answer: PlanAnswer) -> Figures
+    ensures { λ r. ⌜ r ≡ refusal (ofPlan answer) ⌝ }
+{
+    match answer {
+        PlanAnswer::Done => refusal(DONE, 0),
+        PlanAnswer::Room => refusal(ROOM, 0),
+        PlanAnswer::Range(place) => refusal(RANGE, place),
+        PlanAnswer::Shape(place) => refusal(SHAPE, place),
+        PlanAnswer::Bare(place) => refusal(BARE, place),
+        PlanAnswer::Window(place) => refusal(WINDOW, place),
+        PlanAnswer::Align(place) => refusal(ALIGN, place),
+        PlanAnswer::Bounds(place) => refusal(BOUNDS, place),
+        PlanAnswer::Carry(place) => refusal(CARRY, place),
+        PlanAnswer::Offset(place) => refusal(OFFSET, place),
+        PlanAnswer::Long => refusal(LONG, 0),
+    }
+}
+
+// How many shifts a node is.
+fn shift_of(node: Node) -> u64
+    ensures { λ r. ⌜ r ≡ shiftOf node ⌝ }
+{
+    match node {
+        Node::Load(_) => 0,
+        Node::Splat(_) => 0,
+        Node::Op(_) => 0,
+        Node::Shift(_) => 1,
+    }
+}
+
+fn count_shifts(nodes: &[u64], count: u8) -> u64
+    ensures { λ r. ⌜ r ≡ shiftsIn (nodeAt (now (nodes .entry))) count ⌝ }
+{
+    let mut shifts: u64 = 0;
+    let mut k: u8 = 0;
+    while k < count {
+        shifts = shifts + shift_of(tables::node_at(nodes, k));
+        k = k + 1;
+    }
+    shifts
+}
+
+fn count_steps(program: ProgramHead) -> u64
+    requires { ⌜ Countable program ⌝ }
+    ensures { λ r. ⌜ r ≡ stepsIn program ⌝ }
+{
+    let full = program.f;
+    let ends = program.prologue + program.epilogue;
+    if full == 0 {
+        return ends;
+    }
+    ends + (full - 1) * program.body
+}
+
+fn tree_figures(head: &[u64], nodes: &[u64], program: ProgramHead) -> Figures
+    requires { ⌜ Countable program ⌝ }
+    ensures { λ r. ⌜ r ≡ treeFigures (now (head .entry)) (now (nodes .entry)) program ⌝ }
+{
+    let header = graph::header_of(head);
+    let shifts = count_shifts(nodes, header.count);
+    let size = sizes::size(head, nodes);
+    let steps = count_steps(program);
+    Figures {
+        answer: DONE,
+        place: 0,
+        shifts: shifts,
+        size: size,
+        steps: steps,
+    }
+}
+
+// Of the loop as it is drawn: what reading answered, else translating.
+pub(crate) fn drawn_figures(answer: ReadAnswer, head: &[u64], nodes: &[u64]) -> Figures
+    ensures { λ r. ⌜ r ≡ drawnFigures (sheetLeft answer (now (head .entry)) (now (nodes .entry))) ⌝ }
+{
+    let ReadAnswer::Done = answer else {
+        return read_refusal(answer);
+    };
+    let mut prologue = [0u32; SECTION_ENTRIES];
+    let mut body = [0u32; SECTION_ENTRIES];
+    let mut epilogue = [0u32; SECTION_ENTRIES];
+    let program = code::translate(
+        head,
+        nodes,
+        WINDOW_BYTES,
+        WINDOW_BYTES,
+        &mut prologue,
+        &mut body,
+        &mut epilogue,
+    );
+    let translated = program.answer;
+    let TranslateAnswer::Done = translated else {
+        return translate_refusal(translated);
+    };
+    let made = program.head;
+    tree_figures(head, nodes, made)
+}
+
+// Of the loop placed by a rule: what reading answered, else the one-step call; and the placed tables.
+pub(crate) fn placed_figures(answer: ReadAnswer, head: &[u64], nodes: &[u64], rule: u64) -> Figures
+    ensures { λ r. ⌜ r ≡ placedFigures (sheetLeft answer (now (head .entry)) (now (nodes .entry))) rule ⌝ }
+{
+    let ReadAnswer::Done = answer else {
+        return read_refusal(answer);
+    };
+    let mut prologue = [0u32; SECTION_ENTRIES];
+    let mut body = [0u32; SECTION_ENTRIES];
+    let mut epilogue = [0u32; SECTION_ENTRIES];
+    let program = planner::plan(
+        rule,
+        head,
+        nodes,
+        WINDOW_BYTES,
+        WINDOW_BYTES,
+        &mut prologue,
+        &mut body,
+        &mut epilogue,
+    );
+    let planned = program.answer;
+    let PlanAnswer::Done = planned else {
+        return plan_refusal(planned);
+    };
+    let mut placed_head = [0u64; HEAD_ENTRIES];
+    let mut placed_nodes = [0u64; NODE_ENTRIES];
+    placing::place(rule, head, nodes, &mut placed_head, &mut placed_nodes);
+    let made = program.head;
+    tree_figures(&placed_head, &placed_nodes, made)
+}
