@@ -1,5 +1,6 @@
 // The figures of a line: of a refusal its number and place; on done the shifts, G and the steps of the loop's tree, taken from its
 // tables and its program.
+use numbers::Numbered;
 use rules::answers::PlanAnswer;
 use rules::answers::ReadAnswer;
 use rules::answers::TranslateAnswer;
@@ -7,10 +8,10 @@ use rules::nodes::Node;
 use rules::printing::Figures;
 use rules::program::ProgramHead;
 ghost use mathlib.Core.Path.{_≡_};
-ghost use Rattle.rules.specs.Answers.{at, ofRead, ofTranslate, ofPlan};
 ghost use Rattle.rules.specs.Trees.{nodeAt};
 ghost use Rattle.rules.specs.Printing.{placedFigures, drawnFigures};
 ghost use Rattle.sheet.specs.Left.{sheetLeft};
+ghost use Rattle.numbers.specs.Given.{answerOf};
 ghost use Rattle.printing.specs.Figuring.{refusal, shiftOf, shiftsIn, stepsIn, Countable, treeFigures};
 
 const HEAD_ENTRIES: usize = 10;
@@ -23,87 +24,18 @@ const SECTION_ENTRIES: usize = 6144;
 // "takes both windows at 65,536 bytes"
 const WINDOW_BYTES: u64 = 65536;
 
-// The paper's numbers of the answers.
 const DONE: u64 = 0;
 
-const ROOM: u64 = 1;
-
-const LINE: u64 = 2;
-
-const RANGE: u64 = 3;
-
-const SHAPE: u64 = 4;
-
-const BARE: u64 = 5;
-
-const WINDOW: u64 = 6;
-
-const ALIGN: u64 = 7;
-
-const BOUNDS: u64 = 8;
-
-const CARRY: u64 = 9;
-
-const OFFSET: u64 = 10;
-
-const LONG: u64 = 11;
-
-fn refusal(number: u64, place: u64) -> Figures
-    ensures { λ r. ⌜ r ≡ refusal (at number place) ⌝ }
+// What a refusal prints: its number and its place alone.
+fn refusal(answer: Numbered) -> Figures
+    ensures { λ r. ⌜ r ≡ refusal (answerOf answer) ⌝ }
 {
     Figures {
-        answer: number,
-        place: place,
+        answer: answer.number,
+        place: answer.place,
         shifts: 0,
         size: 0,
         steps: 0,
-    }
-}
-
-fn read_refusal(answer: ReadAnswer) -> Figures
-    ensures { λ r. ⌜ r ≡ refusal (ofRead answer) ⌝ }
-{
-    match answer {
-        ReadAnswer::Done => refusal(DONE, 0),
-        ReadAnswer::Room => refusal(ROOM, 0),
-        ReadAnswer::Line(place) => refusal(LINE, place),
-        ReadAnswer::Range(place) => refusal(RANGE, place),
-        ReadAnswer::Shape(place) => refusal(SHAPE, place),
-    }
-}
-
-fn translate_refusal(answer: TranslateAnswer) -> Figures
-    ensures { λ r. ⌜ r ≡ refusal (ofTranslate answer) ⌝ }
-{
-    match answer {
-        TranslateAnswer::Done => refusal(DONE, 0),
-        TranslateAnswer::Room => refusal(ROOM, 0),
-        TranslateAnswer::Range(place) => refusal(RANGE, place),
-        TranslateAnswer::Shape(place) => refusal(SHAPE, place),
-        TranslateAnswer::Window(place) => refusal(WINDOW, place),
-        TranslateAnswer::Align(place) => refusal(ALIGN, place),
-        TranslateAnswer::Bounds(place) => refusal(BOUNDS, place),
-        TranslateAnswer::Carry(place) => refusal(CARRY, place),
-        TranslateAnswer::Offset(place) => refusal(OFFSET, place),
-        TranslateAnswer::Long => refusal(LONG, 0),
-    }
-}
-
-fn plan_refusal(answer: PlanAnswer) -> Figures
-    ensures { λ r. ⌜ r ≡ refusal (ofPlan answer) ⌝ }
-{
-    match answer {
-        PlanAnswer::Done => refusal(DONE, 0),
-        PlanAnswer::Room => refusal(ROOM, 0),
-        PlanAnswer::Range(place) => refusal(RANGE, place),
-        PlanAnswer::Shape(place) => refusal(SHAPE, place),
-        PlanAnswer::Bare(place) => refusal(BARE, place),
-        PlanAnswer::Window(place) => refusal(WINDOW, place),
-        PlanAnswer::Align(place) => refusal(ALIGN, place),
-        PlanAnswer::Bounds(place) => refusal(BOUNDS, place),
-        PlanAnswer::Carry(place) => refusal(CARRY, place),
-        PlanAnswer::Offset(place) => refusal(OFFSET, place),
-        PlanAnswer::Long => refusal(LONG, 0),
     }
 }
 
@@ -165,7 +97,7 @@ pub(crate) fn drawn_figures(answer: ReadAnswer, head: &[u64], nodes: &[u64]) -> 
     ensures { λ r. ⌜ r ≡ drawnFigures (sheetLeft answer (now (head .entry)) (now (nodes .entry))) ⌝ }
 {
     let ReadAnswer::Done = answer else {
-        return read_refusal(answer);
+        return refusal(numbers::of_read(answer));
     };
     let mut prologue = [0u32; SECTION_ENTRIES];
     let mut body = [0u32; SECTION_ENTRIES];
@@ -181,7 +113,7 @@ pub(crate) fn drawn_figures(answer: ReadAnswer, head: &[u64], nodes: &[u64]) -> 
     );
     let translated = program.answer;
     let TranslateAnswer::Done = translated else {
-        return translate_refusal(translated);
+        return refusal(numbers::of_translate(translated));
     };
     let made = program.head;
     tree_figures(head, nodes, made)
@@ -192,7 +124,7 @@ pub(crate) fn placed_figures(answer: ReadAnswer, head: &[u64], nodes: &[u64], ru
     ensures { λ r. ⌜ r ≡ placedFigures (sheetLeft answer (now (head .entry)) (now (nodes .entry))) rule ⌝ }
 {
     let ReadAnswer::Done = answer else {
-        return read_refusal(answer);
+        return refusal(numbers::of_read(answer));
     };
     let mut prologue = [0u32; SECTION_ENTRIES];
     let mut body = [0u32; SECTION_ENTRIES];
@@ -209,7 +141,7 @@ pub(crate) fn placed_figures(answer: ReadAnswer, head: &[u64], nodes: &[u64], ru
     );
     let planned = program.answer;
     let PlanAnswer::Done = planned else {
-        return plan_refusal(planned);
+        return refusal(numbers::of_plan(planned));
     };
     let mut placed_head = [0u64; HEAD_ENTRIES];
     let mut placed_nodes = [0u64; NODE_ENTRIES];

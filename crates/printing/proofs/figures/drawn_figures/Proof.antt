@@ -1,5 +1,6 @@
 -- The first answer that is a refusal, else the tables' figures (FigureLaws).
-use mathlib.Core.Path.{_∙_}
+use mathlib.Core.Path.{ap, _∙_}
+use Rattle.printing.specs.Figuring.{refusal}
 use Rattle.printing.proofs.FigureLaws.{drawn-unread, drawn-refused, drawn-countable, drawn-told}
 use borrow.Author.Needs.{needs}
 use Rattle.printing.proofs.figures.drawn_figures.Statement.{statement}
@@ -8,14 +9,17 @@ use Rattle.printing.proofs.figures.drawn_figures.Tie as tie
 enum-told : tie.Need-enum-told
 enum-told c = search needs
 
-read-refusal-requires : tie.Need-read-refusal-requires
-read-refusal-requires c κs = search needs
+of-read-requires : tie.Need-of-read-requires
+of-read-requires c κs = search needs
+
+refusal-requires : tie.Need-refusal-requires
+refusal-requires c κs = search needs
 
 returns : tie.Need-returns
 returns c =
-    let m = c .before in
+    let m = c .before .before in
     let a = m .before .before .before .args in
-    c .read-refusal .ensures ∙ drawn-unread (a .head .now) (a .nodes .now) (a .answer) (m .match .keys2)
+    c .refusal .ensures ∙ ap refusal (c .before .of-read .ensures) ∙ drawn-unread (a .head .now) (a .nodes .now) (a .answer) (m .match .keys2)
 
 slice-aggregate-translate : tie.Need-slice-aggregate-translate
 slice-aggregate-translate c = search needs
@@ -32,16 +36,19 @@ translate-requires c κs = search needs
 enum-told-2 : tie.Need-enum-told-2
 enum-told-2 c = search needs
 
-translate-refusal-requires : tie.Need-translate-refusal-requires
-translate-refusal-requires c κs = search needs
+of-translate-requires : tie.Need-of-translate-requires
+of-translate-requires c κs = search needs
+
+refusal-requires-2 : tie.Need-refusal-requires-2
+refusal-requires-2 c κs = search needs
 
 returns-2 : tie.Need-returns-2
 returns-2 c =
-    let m = c .before in
+    let m = c .before .before in
     let t = m .before .before .before .before in
     let d = t .before .before .before .before in
     let a = d .before .before .before .before .args in
-    c .translate-refusal .ensures
+    c .refusal2 .ensures ∙ ap refusal (c .before .of-translate .ensures)
     ∙ rw (d .enum-told .given .1) (drawn-refused (a .head .now) (a .nodes .now) (t .translate .result) (t .translate .ensures) (m .match2 .keys2))
 
 tree-figures-requires : tie.Need-tree-figures-requires
@@ -67,14 +74,16 @@ drawn-figures-spec =
     tie.close
     (tie.spec
     enum-told
-    read-refusal-requires
+    of-read-requires
+    refusal-requires
     returns
     slice-aggregate-translate
     slice-aggregate-translate-2
     slice-aggregate-translate-3
     translate-requires
     enum-told-2
-    translate-refusal-requires
+    of-translate-requires
+    refusal-requires-2
     returns-2
     tree-figures-requires
     returns-3)

@@ -1,5 +1,6 @@
 -- The first answer that is a refusal, else the placed tables' figures (FigureLaws).
-use mathlib.Core.Path.{_∙_}
+use mathlib.Core.Path.{ap, _∙_}
+use Rattle.printing.specs.Figuring.{refusal}
 use Rattle.printing.proofs.FigureLaws.{placed-unread, placed-refused, placed-countable, placed-told}
 use borrow.Author.Needs.{needs}
 use Rattle.printing.proofs.figures.placed_figures.Statement.{statement}
@@ -8,14 +9,17 @@ use Rattle.printing.proofs.figures.placed_figures.Tie as tie
 enum-told : tie.Need-enum-told
 enum-told c = search needs
 
-read-refusal-requires : tie.Need-read-refusal-requires
-read-refusal-requires c κs = search needs
+of-read-requires : tie.Need-of-read-requires
+of-read-requires c κs = search needs
+
+refusal-requires : tie.Need-refusal-requires
+refusal-requires c κs = search needs
 
 returns : tie.Need-returns
 returns c =
-    let m = c .before in
+    let m = c .before .before in
     let a = m .before .before .before .args in
-    c .read-refusal .ensures ∙ placed-unread (a .head .now) (a .nodes .now) (a .rule) (a .answer) (m .match .keys2)
+    c .refusal .ensures ∙ ap refusal (c .before .of-read .ensures) ∙ placed-unread (a .head .now) (a .nodes .now) (a .rule) (a .answer) (m .match .keys2)
 
 slice-aggregate-plan : tie.Need-slice-aggregate-plan
 slice-aggregate-plan c = search needs
@@ -32,16 +36,19 @@ plan-requires c κs = search needs
 enum-told-2 : tie.Need-enum-told-2
 enum-told-2 c = search needs
 
-plan-refusal-requires : tie.Need-plan-refusal-requires
-plan-refusal-requires c κs = search needs
+of-plan-requires : tie.Need-of-plan-requires
+of-plan-requires c κs = search needs
+
+refusal-requires-2 : tie.Need-refusal-requires-2
+refusal-requires-2 c κs = search needs
 
 returns-2 : tie.Need-returns-2
 returns-2 c =
-    let m = c .before in
+    let m = c .before .before in
     let t = m .before .before .before .before in
     let d = t .before .before .before .before in
     let a = d .before .before .before .before .args in
-    c .plan-refusal .ensures
+    c .refusal2 .ensures ∙ ap refusal (c .before .of-plan .ensures)
     ∙ rw (d .enum-told .given .1) (placed-refused (a .head .now) (a .nodes .now) (a .rule) (t .plan .result) (t .plan .ensures) (m .match2 .keys2))
 
 slice-aggregate-place : tie.Need-slice-aggregate-place
@@ -86,14 +93,16 @@ placed-figures-spec =
     tie.close
     (tie.spec
     enum-told
-    read-refusal-requires
+    of-read-requires
+    refusal-requires
     returns
     slice-aggregate-plan
     slice-aggregate-plan-2
     slice-aggregate-plan-3
     plan-requires
     enum-told-2
-    plan-refusal-requires
+    of-plan-requires
+    refusal-requires-2
     returns-2
     slice-aggregate-place
     slice-aggregate-place-2
