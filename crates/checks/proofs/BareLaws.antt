@@ -39,12 +39,13 @@ module _ (rule : ℕ) (head nodes : List ℕ) (short : Bool) (lines : Graph → 
       form-is : formCheck vectorBytes g ≡ checking vectorBytes head nodes
       form-is = sym (roomy-checking head nodes vectorBytes tables)
 
-      pub form-refused : (number place : ℕ) → at (suc number) place ≡ checking vectorBytes head nodes → at (suc number) place ≡ judged
+      pub form-refused : (number place : ℕ) → at (suc number) place ≡ checking vectorBytes head nodes
+          → at (suc number) place ≡ judged
       form-refused number place e = sym (by-form ∙ first-refused (formCheck vectorBytes g) (lines g) number place (form-is ∙ sym e))
 
       -- the lines, as they are judged by the sheet's header
-      pub lines-decide : done ≡ checking vectorBytes head nodes → (answer : Answer) → answer ≡ first (lines (graphIn (headerOf head) nodes))
-          → answer ≡ judged
+      pub lines-decide : done ≡ checking vectorBytes head nodes → (answer : Answer)
+          → answer ≡ first (lines (graphIn (headerOf head) nodes)) → answer ≡ judged
       lines-decide e answer l =
           let same = header-graph vectorBytes head nodes (checked-formed vectorBytes head nodes (sym e)) in
           rw same at l ∙ sym (by-form ∙ first-passed (formCheck vectorBytes g) (lines g) (form-is ∙ sym e))

@@ -68,7 +68,8 @@ put-written {before} {row = row} h room e =
     }
 
 pub splice-written : {before after : List ℕ} {row next x y amount : ℕ} → row < sectionMost → Roomy before → amount < lowValues
-    → handed next after ≡ putting before row (Splice row x y (cut amount)) → Written before after row next (Splice row x y amount ∷ [])
+    → handed next after ≡ putting before row (Splice row x y (cut amount))
+    → Written before after row next (Splice row x y amount ∷ [])
 splice-written {amount = amount} h room small e = put-written h room (rw (cut-small amount small) at e)
 
 pub store-written : {before after : List ℕ} {row next x S : ℕ} → row < sectionMost → Roomy before → S ≤ addressMost

@@ -9,10 +9,9 @@ use rules::units::VectorNumber;
 ghost use mathlib.Core.Path.{_≡_};
 ghost use Prim.Native.Nat.{_+_, _*_, _/_};
 ghost use Rattle.rules.specs.Limits.{vectorBytes, lowValues};
-ghost use Rattle.rules.specs.Vectors.{held};
-ghost use Rattle.rules.specs.Machine.{Load, Splat, Op, Splice, Store};
+ghost use Rattle.rules.specs.Machine.{Splat, Op, Splice};
 ghost use Rattle.rules.specs.Code.{pairUp};
-ghost use Rattle.emitting.specs.Putting.{cut, handed, putting};
+ghost use Rattle.emitting.specs.Putting.{cut, loadOf, pairOf, storeOf, handed, putting};
 
 const INSTRUCTION_ENTRIES: usize = 6;
 
@@ -76,7 +75,7 @@ fn moved(address: ByteOffset, blocks: VectorNumber) -> u32
 }
 
 pub fn put_load(section: &mut [u32], row: u32, from: LoadAt, blocks: VectorNumber) -> u32
-    ensures { λ r. ⌜ handed r (now (section .exit)) ≡ putting (now (section .entry)) row (Load row (cut (from .window)) (cut (from .address .0 + vectorBytes * blocks .0))) ⌝ }
+    ensures { λ r. ⌜ handed r (now (section .exit)) ≡ putting (now (section .entry)) row (loadOf row from (blocks .0)) ⌝ }
 {
     let i = Instruction {
         kind: LOAD,
@@ -145,7 +144,7 @@ fn pair_up(from: u32, to: u32, destination: u32, this: u32, other: u32) -> Instr
 }
 
 pub fn put_pair(section: &mut [u32], row: u32, by: ShiftBy, this: u32, other: u32) -> u32
-    ensures { λ r. ⌜ handed r (now (section .exit)) ≡ putting (now (section .entry)) row (pairUp vectorBytes (cut (by .«from» .0)) (cut (by .to .0)) row this other) ⌝ }
+    ensures { λ r. ⌜ handed r (now (section .exit)) ≡ putting (now (section .entry)) row (pairOf row by this other) ⌝ }
 {
     let from = low_bits(by.from.0);
     let to = low_bits(by.to.0);
@@ -169,7 +168,7 @@ pub fn put_splice(section: &mut [u32], row: u32, first: u32, second: u32, amount
 
 // A store writes no register.
 pub fn put_store(section: &mut [u32], row: u32, source: u32, store: ByteOffset) -> u32
-    ensures { λ r. ⌜ handed r (now (section .exit)) ≡ putting (now (section .entry)) row (Store source (cut (held vectorBytes (store .0)))) ⌝ }
+    ensures { λ r. ⌜ handed r (now (section .exit)) ≡ putting (now (section .entry)) row (storeOf source (store .0)) ⌝ }
 {
     let i = Instruction {
         kind: STORE,

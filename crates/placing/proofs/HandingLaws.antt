@@ -16,7 +16,6 @@ use Rattle.rules.specs.Tables.{Graph, padded}
 use Rattle.rules.specs.Calls.{graphTree}
 use Rattle.rules.specs.declared.nodes.Node.{Node}
 use Rattle.rules.specs.declared.nodes.NodeRecord.{NodeRecord}
-use Rattle.rules.specs.declared.nodes.Offset.the-variants.{Undefined}
 use Rattle.theory.proofs.RowLaws.{length-rows}
 use Rattle.theory.proofs.Checked.{sixteen, bare-done, bare-count, graph-unshifted}
 use Rattle.theory.proofs.PlacedSize.{place-count}
@@ -24,23 +23,16 @@ use Rattle.theory.proofs.Placed.{Unshifted}
 use Rattle.graph.specs.Links.{leftIn, lefts, Linked}
 use Rattle.graph.proofs.LinkLaws.{lefts-linked}
 use Rattle.graph.proofs.InputLaws.{some-node, root-tree}
-use Rattle.placing.specs.declared.rule.Moves.{Moves}
-use Rattle.placing.specs.Moves.{at, goes, moved, moves, movesOf}
+use Rattle.moving.specs.declared.Moves.{Moves}
+use Rattle.moving.specs.Met.{dominantIn}
+use Rattle.moving.specs.Rules.{at, movesOf}
+use Rattle.placing.specs.Moves.{goes, moved}
 use Rattle.placing.specs.Writing.{Wrote}
 use Rattle.placing.specs.Records.{nodeIn, movedRows, Recorded, NoShift, Ready}
 use Rattle.placing.specs.Handing.{BareSheet}
 use Rattle.placing.proofs.MoveLaws.{place-moved}
+use Rattle.placing.proofs.DominantLaws.{dominant-met}
 use Rattle.placing.proofs.RecordLaws.{same-tree, recorded-ready}
-
--- ---- the rules
-
-pub moves-most : (W S rule : ℕ) (t : Tree) → (rule ≡ 0 → ⊥) → (rule ≡ 1 → ⊥) → (rule ≡ 2 → ⊥)
-    → moves Undefined (dominant W S t) ≡ movesOf W S rule t
-unfolding movesOf
-moves-most W S zero t a b c = absurd (a refl)
-moves-most W S (suc zero) t a b c = absurd (b refl)
-moves-most W S (suc (suc zero)) t a b c = absurd (c refl)
-moves-most W S (suc (suc (suc rule))) t a b c = refl
 
 -- ---- a bare sheet
 
@@ -80,15 +72,16 @@ module _ (g : Graph) (b : BareSheet g) where
           recorded-ready vectorBytes m (g .nodes) recs left (g .N) is (sheet-linked left e)
           (λ k h. kind-no-shift (cell (g .nodes) k 0) (cell (g .nodes) k 1) (cell (g .nodes) k 2) (bare-done g (b .bare) .0 k h))
 
-      pub last-rows : m ≡ movesOf vectorBytes (g .S) rule (graphTree g)
+      pub last-rows : m ≡ movesOf vectorBytes (g .S) rule (dominantIn vectorBytes (g .S) node (g .N))
           → movedRows vectorBytes m recs (g .N - 1) (at (storeOffset vectorBytes (g .S))) ≡ rows made
       last-rows e =
           let c = storeOffset vectorBytes (g .S) in
+          let by-tree : m ≡ movesOf vectorBytes (g .S) rule (dominant vectorBytes (g .S) (graphTree g)) = rw (dominant-met g (b .formed)) at e in
           let t : treeAt (nodeIn recs) (g .N - 1) ≡ graphTree g =
           same-tree vectorBytes m (g .nodes) recs [] (g .N) is (g .N - 1) (omega (arith, has-last))
           ∙ root-tree (g .nodes) (g .N) has-last in
           ap (λ (x : Tree). rows (goes vectorBytes (at c) (moved vectorBytes m x))) t
-          ∙ rw e (ap rows (sym (place-moved vectorBytes (g .S) rule (graphTree g) unshifted)))
+          ∙ rw by-tree (ap rows (sym (place-moved vectorBytes (g .S) rule (graphTree g) unshifted)))
 
 -- ---- a table that was cleared
 

@@ -1,7 +1,7 @@
 pub mod MoveLaws
 pub mod RecordLaws
 pub mod RowLaws
-pub mod MetLaws
+pub mod DominantLaws
 pub mod HandingLaws
 pub mod AnswerLaws
 pub mod Outcomes

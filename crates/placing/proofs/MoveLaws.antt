@@ -12,8 +12,9 @@ use Rattle.rules.specs.declared.nodes.Offset.{Offset}
 use Rattle.rules.specs.declared.nodes.Offset.the-variants.{At, Undefined}
 use Rattle.theory.proofs.Placed.{toward-is, Unshifted, agree-at, loadsTo-agrees}
 use Rattle.theory.proofs.PlacedSize.{toward-at, join-left}
-use Rattle.placing.specs.declared.rule.Moves.{Moves}
-use Rattle.placing.specs.Moves.{at, goes, opOffset, moved, moves, movesOf}
+use Rattle.moving.specs.declared.Moves.{Moves}
+use Rattle.moving.specs.Rules.{at, moves, movesOf}
+use Rattle.placing.specs.Moves.{goes, opOffset, moved}
 
 -- what stands at g already stays
 toward-stays : (W g : ℕ) (t : Tree) → agree (at g) (offset W t) ≡ true → toward W g t ≡ t
@@ -44,7 +45,7 @@ moved-inputs W g (op o l r) = rw (moved-inputs W g l, moved-inputs W g r) (go _ 
     go p q false = refl
 moved-inputs W g (shift f h t) = ap (shift f h) (moved-inputs W g t)
 
-pub place-moved : (W S rule : ℕ) (t : Tree) → Unshifted t → place W S rule t ≡ goes W (at (storeOffset W S)) (moved W (movesOf W S rule t) t)
+pub place-moved : (W S rule : ℕ) (t : Tree) → Unshifted t → place W S rule t ≡ goes W (at (storeOffset W S)) (moved W (movesOf W S rule (dominant W S t)) t)
 unfolding place movesOf
 place-moved W S zero t b = ap (toward W (storeOffset W S)) (sym (moved-loads W 0 0 t b))
 place-moved W S (suc zero) t b =

@@ -22,8 +22,9 @@ use Rattle.rules.specs.declared.nodes.Offset.the-variants.{At, Undefined}
 use Rattle.rules.specs.declared.nodes.NodeRecord.{NodeRecord}
 use Rattle.rules.specs.declared.sheet.Row.{Row}
 use Rattle.tables.specs.Rows.{rowPut}
-use Rattle.placing.specs.declared.rule.Moves.{Moves}
-use Rattle.placing.specs.Moves.{at, goes, meetingAt, moved}
+use Rattle.moving.specs.declared.Moves.{Moves}
+use Rattle.moving.specs.Rules.{at}
+use Rattle.placing.specs.Moves.{goes, meetingAt, moved}
 use Rattle.placing.specs.Writing.{shiftRow, Wrote}
 use Rattle.graph.specs.Links.{leftIn}
 use Rattle.offsets.specs.Judging.{offsetIn}

@@ -1,5 +1,4 @@
 pub mod Moves
 pub mod Writing
 pub mod Records
-pub mod Met
 pub mod Handing

@@ -1,16 +1,13 @@
--- "Placing", the four rules as one: where each load goes, undefined where it stays, and where the inputs of an op that disagree
--- meet; the root goes to c by every rule. W is the bytes of a vector.
-use Prim.Native.Nat.{ℕ, zero, suc}
+-- A tree with shifts put in by where loads go and where the inputs of an op that disagree meet. W is the bytes of a vector.
+use Prim.Native.Nat.{ℕ}
 use mathlib.Core.Bool.{cond}
-use Rattle.rules.specs.Trees.{Tree, load, splat, op, shift, bytes}
-use Rattle.rules.specs.Offsets.{storeOffset, agree, join, offset}
-use Rattle.rules.specs.Placing.{toward, dominant}
+use Rattle.rules.specs.Trees.{Tree, load, splat, op, shift}
+use Rattle.rules.specs.Offsets.{agree, join, offset}
+use Rattle.rules.specs.Placing.{toward}
 use Rattle.rules.specs.declared.nodes.Offset.{Offset}
 use Rattle.rules.specs.declared.nodes.Offset.the-variants.{At, Undefined}
-use Rattle.placing.specs.declared.rule.Moves.{Moves}
-
-abbrev pub at : ℕ → Offset
-at g = At (bytes g)
+use Rattle.moving.specs.declared.Moves.{Moves}
+use Rattle.moving.specs.Rules.{at}
 
 -- t goes to an offset, or stays
 abbrev pub goes : (W : ℕ) → Offset → Tree → Tree
@@ -33,13 +30,3 @@ moved W m (op o l r) =
     let to = meetingAt (m .meeting .0) (offset W (moved W m l)) (offset W (moved W m r)) in
     op o (goes W to (moved W m l)) (goes W to (moved W m r))
 moved W m (shift f g t) = shift f g (moved W m t)
-
-abbrev pub moves : (loads : Offset) (meeting : ℕ) → Moves
-moves loads meeting = record { loads = loads; meeting = bytes meeting }
-
--- 0 ZERO, 1 EAGER, 2 LAZY, 3 DOMINANT; by the first two inputs never disagree
-unfoldable pub movesOf : (W S rule : ℕ) → Tree → Moves
-movesOf W S zero t = moves (at 0) 0
-movesOf W S (suc zero) t = moves (at (storeOffset W S)) (storeOffset W S)
-movesOf W S (suc (suc zero)) t = moves Undefined (storeOffset W S)
-movesOf W S (suc (suc (suc r))) t = moves Undefined (dominant W S t)

@@ -11,7 +11,7 @@ use Rattle.rules.specs.declared.nodes.Offset.{Offset}
 use Rattle.rules.specs.declared.nodes.NodeRecord.{NodeRecord}
 use Rattle.graph.specs.Links.{leftIn, Linked}
 use Rattle.offsets.specs.Judging.{noRecord, offsetIn}
-use Rattle.placing.specs.declared.rule.Moves.{Moves}
+use Rattle.moving.specs.declared.Moves.{Moves}
 use Rattle.placing.specs.Moves.{goes, moved}
 
 abbrev pub nodeIn : List NodeRecord → ℕ → Node

@@ -1,9 +1,7 @@
 // Placing (document 01, "Placing"): shifts put into a bare sheet by one of four rules, and the placed graph handed back.
-mod dominant;
 mod placed;
 mod records;
 mod rows;
-mod rule;
 
 use rules::answers::PlaceAnswer;
 ghost use mathlib.Core.Path.{_≡_};

@@ -1,9 +1,9 @@
 // The placed graph handed back: its rows and its head, the unused entries zero.
 use crate::records::records;
 use crate::rows::write;
-use crate::rule::V;
-use crate::rule::moves_of;
 use graph::Header;
+use moving::V;
+use moving::moves_of;
 use rules::nodes::Offset;
 use rules::units::ByteOffset;
 ghost use mathlib.Core.Path.{_≡_};

@@ -1,7 +1,7 @@
 // The nodes of a bare sheet, each with the offset that its placed tree has. A node's inputs come before it, so one pass in the
 // order of the table knows them all. Records go by value: functions over a lent array of structs would have to be walked by hand.
-use crate::rule::Moves;
-use crate::rule::V;
+use moving::Moves;
+use moving::V;
 use offsets::agree;
 use offsets::join;
 use rules::nodes::Node;

@@ -10,7 +10,7 @@ use lib.ListN.{length, replicate}
 use Rattle.rules.specs.Limits.{vectorBytes}
 use Rattle.rules.specs.Answers.{Answer, DONE, ROOM, at, done, first, ofTranslate, ofPlan}
 use Rattle.rules.specs.Tables.{Graph, graphOf, headOf, padded, noProgram}
-use Rattle.rules.specs.Checks.{headShort, nodesShort, sectionShort, roomCheck, ruleCheck, formCheck, bareCheck, alignCheck}
+use Rattle.rules.specs.Checks.{headShort, nodesShort, roomCheck, ruleCheck, formCheck, bareCheck, alignCheck}
 use Rattle.rules.specs.Calls.{WithSheet, WithProgram, placeAnswer, placedGraph, placing, graphProgram, programLeft, bareChecks, planAnswer, planning, translating}
 use Rattle.rules.specs.declared.answers.PlaceAnswer.{PlaceAnswer}
 use Rattle.rules.specs.declared.answers.PlanAnswer.{PlanAnswer}
@@ -54,7 +54,7 @@ module _ (rule : ℕ) (head nodes : List ℕ) (workLen tableLen : ℕ) (prologue
       let g : Graph = graphOf head nodes in
       let short : Bool = tablesShort head nodes prologue body epilogue in
       let tables : (headShort head || nodesShort nodes) ≡ false =
-      tables-roomy (headShort head || nodesShort nodes) (sectionShort prologue) (sectionShort body) (sectionShort epilogue) (refuse-done short 0 0 (c 0)) in
+      tables-roomy (headShort head || nodesShort nodes) _ _ _ (refuse-done short 0 0 (c 0)) in
       let room : roomCheck (headShort head || nodesShort nodes || headShort ownHead || nodesShort ownNodes) .number ≡ DONE = rw tables in
       let l₄ : List Answer = alignCheck g ∷ [] in
       let l₃ : List Answer = bareCheck g ∷ l₄ in
@@ -89,7 +89,8 @@ module _ (rule : ℕ) (head nodes : List ℕ) (workLen tableLen : ℕ) (prologue
   plan-done step head′ nodes′ p made prologue′ body′ epilogue′ t =
       let h : head′ ≡ padded 10 (headOf placed) = ap (λ (x : WithSheet). x .head) (p ∙ placing-is) in
       let n : nodes′ ≡ padded 192 (placed .nodes) = ap (λ (x : WithSheet). x .nodes) (p ∙ placing-is) in
-      let both = placed-translates vectorBytes sixteen rule head nodes prologue body epilogue 10 192 (omega arith, omega arith) workLen tableLen number in
+      let both =
+      placed-translates vectorBytes sixteen rule head nodes prologue body epilogue 10 192 (omega arith, omega arith) workLen tableLen number in
       let all : programGiven made prologue′ body′ epilogue′ ≡ planning vectorBytes rule head nodes workLen tableLen prologue body epilogue =
       rw (h, n) at t ∙ both in
       let answered : ofTranslate (made .answer) ≡ done = ap (λ (x : WithProgram). x .answer) all ∙ planned in

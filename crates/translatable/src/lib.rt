@@ -1,5 +1,5 @@
-// Whether a graph can be translated: translating's refusals, in the order of their numbers. Each check is another crate's; here they
-// are put in order.
+// Whether a graph can be translated: translating's refusals, in the order of their numbers. Each check is another crate's; here
+// they are put in order.
 use checks::Found;
 use graph::Header;
 use rules::answers::CheckAnswer;

@@ -16,7 +16,9 @@ same-length : tie.Need-same-length
 same-length c = search needs
 
 returns : tie.Need-returns
-returns c = rw (c .before .before .before .before .moved .ensures, c .before .before .before .before .before .low-bits .ensures) at (c .before .before .put .ensures)
+returns c =
+    let address = c .before .before .before .before in
+    rw (address .moved .ensures, address .before .low-bits .ensures) at (c .before .before .put .ensures)
 
 pub put-load-spec : {M : Type 1} → statement M
 put-load-spec =

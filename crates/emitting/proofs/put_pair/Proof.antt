@@ -19,7 +19,9 @@ same-length : tie.Need-same-length
 same-length c = search needs
 
 returns : tie.Need-returns
-returns c = rw (c .before .before .before .before .pair-up .ensures, c .before .before .before .before .before .low-bits2 .ensures, c .before .before .before .before .before .before .low-bits .ensures) at (c .before .before .put .ensures)
+returns c =
+    let made = c .before .before .before .before in
+    rw (made .pair-up .ensures, made .before .low-bits2 .ensures, made .before .before .low-bits .ensures) at (c .before .before .put .ensures)
 
 pub put-pair-spec : {M : Type 1} → statement M
 put-pair-spec =

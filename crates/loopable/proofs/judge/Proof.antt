@@ -31,7 +31,8 @@ returns : tie.Need-returns
 returns c =
     let a = c .before .before .before .before .before .before .before .args in
     let form = sym (rw (c .before .before .enum-told .given .1) at (c .before .before .before .before .check .ensures)) in
-    form-passed (a .head .now) (a .nodes .now) (a .work-len) (a .table-len) form _ (rw (c .before .header-of .ensures) at (c .judge-windows .ensures))
+    form-passed (a .head .now) (a .nodes .now) (a .work-len) (a .table-len) form _
+    (rw (c .before .header-of .ensures) at (c .judge-windows .ensures))
 
 returns-2 : tie.Need-returns-2
 returns-2 c = sym (first-refused _ _ 0 _ (sym (rw (c .enum-told2 .given .1) at (c .before .before .check .ensures))))

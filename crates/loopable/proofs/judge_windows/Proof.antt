@@ -48,7 +48,8 @@ returns-3 c =
     let w = a .before .before .before in
     let windows = sym (rw (a .before .enum-told .given .1) at (w .windows .ensures)) in
     let align = sym (rw (b .before .enum-told2 .given .1) at (a .align .ensures)) in
-    sym (first-passed _ _ windows ∙ first-passed _ _ align ∙ first-refused _ _ 7 _ (sym (rw (c .before .line2 .given .1) at (b .bounds .ensures))))
+    let found = sym (rw (c .before .line2 .given .1) at (b .bounds .ensures)) in
+    sym (first-passed _ _ windows ∙ first-passed _ _ align ∙ first-refused _ _ 7 _ found)
 
 enum-told-3 : tie.Need-enum-told-3
 enum-told-3 c = search needs

@@ -16,14 +16,16 @@ returns : tie.Need-returns
 returns c =
     let s = c .before in
     let a = s .before .before .before .before .before .before .args in
-    room-refused (a .rule) (a .head .now) (a .nodes .now) _ (lineChecks (a .work-len) (a .table-len)) (sym (s .tables-short .ensures) ∙ c .if1 .taken)
+    room-refused (a .rule) (a .head .now) (a .nodes .now) _ (lineChecks (a .work-len) (a .table-len))
+    (sym (s .tables-short .ensures) ∙ c .if1 .taken)
 
 returns-2 : tie.Need-returns-2
 returns-2 c =
     let i = c .before in
     let s = i .before in
     let a = s .before .before .before .before .before .before .args in
-    rule-refused (a .rule) (a .head .now) (a .nodes .now) _ (lineChecks (a .work-len) (a .table-len)) (sym (s .tables-short .ensures) ∙ i .if1 .left) (c .if2 .taken)
+    let roomy = sym (s .tables-short .ensures) ∙ i .if1 .left in
+    rule-refused (a .rule) (a .head .now) (a .nodes .now) _ (lineChecks (a .work-len) (a .table-len)) roomy (c .if2 .taken)
 
 check-requires : tie.Need-check-requires
 check-requires c κs = search needs
@@ -56,8 +58,8 @@ returns-3 c =
     let roomy = sym (s .tables-short .ensures) ∙ i .if1 .left in
     let tables = tables-roomy (headShort (a .head .now) || nodesShort (a .nodes .now)) _ _ _ roomy in
     let passed = rw (c .before .before .enum-told .given .1) at (k .check .ensures) in
-    lines-decide (a .rule) (a .head .now) (a .nodes .now) _ (lineChecks (a .work-len) (a .table-len)) roomy (r .if2 .left) tables passed _
-    (rw (c .before .header-of .ensures) at (c .judge-lines .ensures))
+    lines-decide (a .rule) (a .head .now) (a .nodes .now) _ (lineChecks (a .work-len) (a .table-len)) roomy (r .if2 .left) tables
+    passed _ (rw (c .before .header-of .ensures) at (c .judge-lines .ensures))
 
 returns-4 : tie.Need-returns-4
 returns-4 c =

@@ -25,7 +25,8 @@ returns c =
     let j = c .before .before in
     let s = j .before .before .before .before .before .before .before .before .before in
     let a = s .args in
-    room-leaves (a .rule) (a .head .now) (a .nodes .now) (a .work-len) (a .table-len) (a .prologue .now) (a .body .now) (a .epilogue .now) (rw (c .enum-told .given .1) at (j .judge .ensures))
+    room-leaves (a .rule) (a .head .now) (a .nodes .now) (a .work-len) (a .table-len) (a .prologue .now) (a .body .now) (a .epilogue .now)
+    (rw (c .enum-told .given .1) at (j .judge .ensures))
 
 enum-told-2 : tie.Need-enum-told-2
 enum-told-2 c = search needs
@@ -58,7 +59,8 @@ returns-2 c =
     let s = j .before .before .before .before .before .before .before .before .before in
     let a = s .args in
     rw (x .clear .ensures, y .clear2 .ensures, z .clear3 .ensures)
-    (refusal-leaves (a .rule) (a .head .now) (a .nodes .now) (a .work-len) (a .table-len) (a .prologue .now) (a .body .now) (a .epilogue .now) (j .judge .result) (j .judge .ensures) (m .match2 .keys2) (m .before .match .keys2))
+    (refusal-leaves (a .rule) (a .head .now) (a .nodes .now) (a .work-len) (a .table-len) (a .prologue .now) (a .body .now) (a .epilogue .now)
+    (j .judge .result) (j .judge .ensures) (m .match2 .keys2) (m .before .match .keys2))
 
 slice-aggregate-place : tie.Need-slice-aggregate-place
 slice-aggregate-place c = search needs

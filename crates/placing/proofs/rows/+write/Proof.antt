@@ -14,7 +14,8 @@ use Rattle.rules.specs.declared.nodes.LoadAt.{LoadAt}
 use Rattle.rules.specs.declared.nodes.Node.the-variants.{Load, Splat, Op}
 use Rattle.rules.specs.declared.nodes.Offset.{Offset}
 use Rattle.rules.specs.declared.nodes.NodeRecord.{NodeRecord}
-use Rattle.placing.specs.Moves.{at, meetingAt}
+use Rattle.moving.specs.Rules.{at}
+use Rattle.placing.specs.Moves.{meetingAt}
 use Rattle.placing.specs.Writing.{shiftRow}
 use Rattle.graph.specs.Links.{leftIn}
 use Rattle.offsets.specs.Judging.{offsetIn}

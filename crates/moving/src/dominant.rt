@@ -1,27 +1,23 @@
 // DOMINANT's offset: how often each offset is met among the loads and the store, and which is met most often.
-use crate::rule::V;
+use crate::V;
 use graph::Header;
 use rules::nodes::Node;
 use rules::units::ByteOffset;
 ghost use mathlib.Core.Path.{_≡_};
 ghost use mathlib.Core.List.{[], _∷_};
-ghost use Prim.Native.Nat.{_≤_, _<_};
-ghost use Rattle.rules.specs.Limits.{vectorBytes, nodesMost};
-ghost use Rattle.rules.specs.Trees.{bytes, nodeAt, treeOf};
-ghost use Rattle.rules.specs.Placing.{dominant};
-ghost use Rattle.theory.proofs.FormLaws.{Formed};
-ghost use Rattle.graph.specs.Headers.{graphIn};
-ghost use Rattle.placing.specs.Met.{metIn, Counted, Largest};
+ghost use Prim.Native.Nat.{_<_};
+ghost use Rattle.rules.specs.Limits.{vectorBytes};
+ghost use Rattle.rules.specs.Trees.{bytes, nodeAt};
+ghost use Rattle.moving.specs.Met.{metIn, Counted, countAt, Largest, dominantIn};
 
 const OFFSETS: usize = 16;
 
 // Each load is counted once, and the store, which stands at c, once.
-fn count_met(nodes: &[u64], count: u8, c: ByteOffset) -> [u8; 16]
-    requires { ⌜ count ≤ nodesMost ⌝ }
+fn count_met(nodes: &[u64], count: u8, c: ByteOffset) -> [u16; 16]
     requires { ⌜ c .0 < vectorBytes ⌝ }
     ensures { λ r. ⌜ Counted vectorBytes (metIn vectorBytes (nodeAt (now (nodes .entry))) (c .0 ∷ []) count) r ⌝ }
 {
-    let mut counts = [0u8; 16];
+    let mut counts = [0u16; 16];
     let store = c.0 as usize;
     counts[store] = 1;
     let mut k: u8 = 0;
@@ -37,8 +33,8 @@ fn count_met(nodes: &[u64], count: u8, c: ByteOffset) -> [u8; 16]
 }
 
 // The offset with the largest count, the smallest on a tie.
-fn most_met(counts: &[u8; 16]) -> usize
-    ensures { λ r. ⌜ Largest (now (counts .entry)) vectorBytes r ⌝ }
+fn most_met(counts: &[u16; 16]) -> usize
+    ensures { λ r. ⌜ Largest (countAt (now (counts .entry))) vectorBytes r ⌝ }
 {
     let mut most = 0;
     let mut x = 1;
@@ -53,8 +49,7 @@ fn most_met(counts: &[u8; 16]) -> usize
 
 // The offset met most often among the loads and the store.
 pub(crate) fn dominant(head: Header, nodes: &[u64]) -> ByteOffset
-    requires { ⌜ Formed vectorBytes (graphIn head (now nodes)) ⌝ }
-    ensures { λ r. ⌜ r ≡ bytes (dominant vectorBytes (head .store .0) (treeOf (now (nodes .entry)) (head .count))) ⌝ }
+    ensures { λ r. ⌜ r ≡ bytes (dominantIn vectorBytes (head .store .0) (nodeAt (now (nodes .entry))) (head .count)) ⌝ }
 {
     let c = ByteOffset(head.store.0 % V);
     let counts = count_met(nodes, head.count, c);

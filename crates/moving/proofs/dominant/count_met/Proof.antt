@@ -6,10 +6,10 @@ use native.Mathlib.Omega.{arith}
 use lib.ListN.{length, length-set}
 use borrow.Author.Needs.{needs}
 use Rattle.rules.specs.Trees.{nodeAt}
-use Rattle.placing.specs.Met.{metIn, Counted}
-use Rattle.placing.proofs.MetLaws.{counted-store, counted-most, load-counted, other-counted}
-use Rattle.placing.proofs.dominant.count_met.Statement.{statement}
-use Rattle.placing.proofs.dominant.count_met.Tie as tie
+use Rattle.moving.specs.Met.{metIn, Counted}
+use Rattle.moving.proofs.MetLaws.{counted-store, counted-most, load-counted, other-counted}
+use Rattle.moving.proofs.dominant.count_met.Statement.{statement}
+use Rattle.moving.proofs.dominant.count_met.Tie as tie
 
 abbrev Inv-loop : tie.InvT-loop
 Inv-loop nodes count counts₀ store k₀ counts k = (k ≤ count) × (length counts ≡ 16) × Counted 16 (metIn 16 (nodeAt nodes) (store ∷ []) k) counts
@@ -17,19 +17,25 @@ Inv-loop nodes count counts₀ store k₀ counts k = (k ≤ count) × (length co
 abbrev μ-loop : tie.MeasureT-loop
 μ-loop nodes count counts₀ store k₀ counts k = count - k
 
+mul-counts : tie.Need-mul-counts Inv-loop μ-loop
+mul-counts c = omega arith
+
 array-write-counts : tie.Need-array-write-counts Inv-loop μ-loop
 array-write-counts c = omega arith
 
 loop-holds : tie.Need-loop-holds Inv-loop μ-loop
 loop-holds c =
     let a = c .before .args in
-    (omega arith, simp length-set, counted-store (a .c .0) (nodeAt (a .nodes .now)) (c .before .pre .1))
+    (omega arith, simp length-set, counted-store (a .c .0) (nodeAt (a .nodes .now)) (c .before .pre))
 
 node-at-requires : tie.Need-node-at-requires Inv-loop μ-loop
 node-at-requires c κs = search needs
 
 enum-known-node : tie.Need-enum-known-node Inv-loop μ-loop
 enum-known-node c = search needs
+
+mul-counts-2 : tie.Need-mul-counts-2 Inv-loop μ-loop
+mul-counts-2 c = search needs
 
 array-read-counts : tie.Need-array-read-counts Inv-loop μ-loop
 array-read-counts c = search needs
@@ -41,6 +47,9 @@ add-counts c =
     let offset = c .before .before .node .given .0 .0 .address .0 % 16 in
     let most = counted-most 16 (nodeAt (a .nodes .now)) (a .c .0 ∷ []) (l .k) (l .counts) (l .inv .2) offset (omega arith) in
     omega (arith, most)
+
+mul-counts-3 : tie.Need-mul-counts-3 Inv-loop μ-loop
+mul-counts-3 c = search needs
 
 array-write-counts-2 : tie.Need-array-write-counts-2 Inv-loop μ-loop
 array-write-counts-2 c = search needs
@@ -78,12 +87,15 @@ count-met-spec =
     (tie.spec
     Inv-loop
     μ-loop
+    mul-counts
     array-write-counts
     loop-holds
     node-at-requires
     enum-known-node
+    mul-counts-2
     array-read-counts
     add-counts
+    mul-counts-3
     array-write-counts-2
     add-k
     loop-less

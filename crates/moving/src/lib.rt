@@ -1,21 +1,23 @@
-// What a placing rule moves, and where: 0 ZERO, 1 EAGER, 2 LAZY, 3 DOMINANT.
+// What a placing rule moves, and where: 0 ZERO, 1 EAGER, 2 LAZY, 3 DOMINANT. Every table is answered for, also one that does not
+// pass as a graph: DOMINANT goes by its rows.
+mod dominant;
+
 use crate::dominant::dominant;
 use graph::Header;
 use rules::nodes::Offset;
 use rules::units::ByteOffset;
 ghost use mathlib.Core.Path.{_≡_};
 ghost use Rattle.rules.specs.Limits.{vectorBytes};
-ghost use Rattle.rules.specs.Trees.{treeOf};
-ghost use Rattle.theory.proofs.FormLaws.{Formed};
-ghost use Rattle.graph.specs.Headers.{graphIn};
+ghost use Rattle.rules.specs.Trees.{nodeAt};
 ghost use Rattle.rules.specs.declared.nodes.Offset.the-variants.{Undefined};
-ghost use Rattle.placing.specs.Moves.{at, moves, movesOf};
+ghost use Rattle.moving.specs.Met.{dominantIn};
+ghost use Rattle.moving.specs.Rules.{at, moves, movesOf};
 
 // Bytes of a vector.
-pub(crate) const V: u64 = 16;
+pub const V: u64 = 16;
 
 // Where each load goes, undefined where it stays, and where the inputs of an op that disagree meet.
-pub(crate) struct Moves {
+pub struct Moves {
     pub loads: Offset,
     pub meeting: ByteOffset,
 }
@@ -40,9 +42,9 @@ fn inputs_to(g: ByteOffset) -> Moves
     }
 }
 
-pub(crate) fn moves_of(rule: u64, head: Header, nodes: &[u64]) -> Moves
-    requires { ⌜ Formed vectorBytes (graphIn head (now nodes)) ⌝ }
-    ensures { λ r. ⌜ r ≡ movesOf vectorBytes (head .store .0) rule (treeOf (now (nodes .entry)) (head .count)) ⌝ }
+// Of a rule, for the nodes of a table.
+pub fn moves_of(rule: u64, head: Header, nodes: &[u64]) -> Moves
+    ensures { λ r. ⌜ r ≡ movesOf vectorBytes (head .store .0) rule (dominantIn vectorBytes (head .store .0) (nodeAt (now (nodes .entry))) (head .count)) ⌝ }
 {
     let zero = ByteOffset(0);
     let c = ByteOffset(head.store.0 % V);

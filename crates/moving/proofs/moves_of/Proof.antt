@@ -1,10 +1,10 @@
 use mathlib.Core.Path.{_∙_}
 use Rattle.rules.specs.Limits.{vectorBytes}
-use Rattle.placing.specs.Moves.{movesOf}
-use Rattle.placing.proofs.HandingLaws.{moves-most}
+use Rattle.moving.specs.Rules.{movesOf}
+use Rattle.moving.proofs.RuleLaws.{moves-most}
 use borrow.Author.Needs.{needs}
-use Rattle.placing.proofs.rule.moves_of.Statement.{statement}
-use Rattle.placing.proofs.rule.moves_of.Tie as tie
+use Rattle.moving.proofs.moves_of.Statement.{statement}
+use Rattle.moving.proofs.moves_of.Tie as tie
 
 loads-to-requires : tie.Need-loads-to-requires
 loads-to-requires c κs = search needs
