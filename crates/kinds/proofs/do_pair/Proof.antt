@@ -1,4 +1,6 @@
 -- `do_pair`: a fault by the fields, or the two registers shifted.
+use Prim.Native.Nat.{_≤_, _<_}
+use native.Mathlib.Omega.{arith}
 use mathlib.Core.Path.{refl, sym, _∙_}
 use borrow.Author.Needs.{needs}
 use borrow.Author.Tests.{le-ltb, lt-ltb, not-true, not-false}
@@ -25,7 +27,8 @@ returns-2 c table j work =
     let at-registers = c .before .before .before in
     let a = at-registers .before .args in
     let known = sym (at-registers .registers-known .ensures) ∙ not-false _ (c .before .before .if1 .left) in
-    unknown-tried pairKind anyWidth table j (a .i) _ work (registers-fine (a .i) _ known ∙ le-ltb _ _ (c .if2 .taken))
+    let over : 16 ≤ a .i .low = omega (arith, c .if2 .taken) in
+    unknown-tried pairKind anyWidth table j (a .i) _ work (registers-fine (a .i) _ known ∙ le-ltb (a .i .low) 16 over)
 
 cast-vshiftpair : tie.Need-cast-vshiftpair
 cast-vshiftpair c = search needs
@@ -77,8 +80,9 @@ returns-3 c table j work =
     let at-registers = at-test .before in
     let a = at-registers .before .args in
     let known = sym (at-registers .registers-known .ensures) ∙ not-false _ (at-test .if1 .left) in
-    rw (c .before .vshiftpair .ensures, amount-kept _ (at-amount .if2 .left))
-    (effect-tried pairKind anyWidth table j (a .i) _ work refl (registers-fine (a .i) _ known ∙ lt-ltb _ _ (at-amount .if2 .left)))
+    let below : a .i .low < 16 = omega (arith, at-amount .if2 .left) in
+    rw (c .before .vshiftpair .ensures, amount-kept (a .i .low) below)
+    (effect-tried pairKind anyWidth table j (a .i) _ work refl (registers-fine (a .i) _ known ∙ lt-ltb (a .i .low) 16 below))
 
 pub do-pair-spec : {M : Type 1} → statement M
 do-pair-spec =
