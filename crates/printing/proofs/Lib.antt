@@ -1,3 +1,4 @@
 pub mod LineLaws
 pub mod ShiftLaws
 pub mod FigureLaws
+pub mod CaseLaws

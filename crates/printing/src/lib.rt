@@ -1,8 +1,12 @@
 // What the programs `places` and `edges` print, as functions on slices (document 01, "The program `places`"): the four lines of a
 // text, and the line of the graph as it is drawn.
+mod cases;
 mod figures;
 mod lines;
 
+pub use cases::Case;
+pub use cases::Cases;
+pub use cases::case_at;
 use rules::answers::ReadAnswer;
 ghost use mathlib.Core.Path.{_≡_};
 ghost use lib.ListN.{take};
