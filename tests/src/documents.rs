@@ -53,7 +53,24 @@ pub fn files_right() -> Result<usize, String> {
         return Err(format!("edges.txt: no case is {refusal}"));
     }
     same("edges.txt", &printed, &bytes(&folder("sheets/edges.printed"))?)?;
+    stored_cases_right()?;
     Ok(worked.len() + 1)
+}
+
+/// The stored cases of the two programs, which `rt check` runs, are files of ../sheets.
+fn stored_cases_right() -> Result<(), String> {
+    let stored = [
+        ("crates/places/stdin", "sheets/paper.sheet"),
+        ("crates/places/stdout", "sheets/paper.printed"),
+        ("crates/edges/stdin", "sheets/edges.txt"),
+        ("crates/edges/stdout", "sheets/edges.printed"),
+    ];
+    for (case, sheet) in stored {
+        if bytes(&folder(case))? != bytes(&folder(sheet))? {
+            return Err(format!("{case} is not {sheet}"));
+        }
+    }
+    Ok(())
 }
 
 /// The refusals that a sheet can meet in windows of 65,536 bytes, by the names of document 01.
