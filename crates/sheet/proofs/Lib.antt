@@ -1,5 +1,4 @@
-pub mod DigitLaws
-pub mod FrameLaws
+pub mod HeaderLaws
 pub mod LineLaws
 pub mod SheetLaws
 pub mod Outcomes

@@ -2,8 +2,11 @@
 use Prim.Native.Nat.{ℕ, _≤_, _<_}
 use mathlib.Core.Path.{_≡_}
 use Rattle.rules.specs.Limits.{nodesMost}
-use Rattle.sheet.specs.Numbers.{textMost}
 use Rattle.rules.specs.declared.sheet.Cursor.{Cursor}
+
+-- a text that is a sheet is not longer
+abbrev pub textMost : ℕ
+textMost = 2048
 
 -- no line is longer
 abbrev pub lineBytes : ℕ

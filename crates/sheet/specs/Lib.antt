@@ -1,4 +1,2 @@
-pub mod Numbers
-pub mod Headers
 pub mod Cursors
 pub mod Left

@@ -1,5 +1,4 @@
 // What one line after the header does: LINE, then RANGE, then SHAPE, or reading goes on.
-use crate::frames::later_frame;
 use rules::answers::ReadAnswer;
 use rules::sheet::Cursor;
 use rules::sheet::Fields;
@@ -68,7 +67,7 @@ pub(crate) fn line_at(text: &[u8], width: Width, here: Cursor) -> LineStep
     requires { ⌜ Reached here ⌝ }
     ensures { λ r. ⌜ r ≡ lineAt (now (text .entry)) (widthBytes width) here ⌝ }
 {
-    let frame = later_frame(text, here.at as usize);
+    let frame = frames::later_frame(text, here.at as u32);
     match frame {
         Frame::Bad => LineStep::Stop(ReadAnswer::Line(here.line)),
         Frame::Is(f) => {

@@ -4,7 +4,7 @@ use borrow.Author.Tests.{eq-eqb}
 use Rattle.rules.specs.Frames.{frameAt}
 use Rattle.rules.specs.Reading.{sheetBy, sheetOf}
 use Rattle.rules.specs.declared.answers.ReadAnswer.the-variants.{Line}
-use Rattle.sheet.proofs.FrameLaws.{header-is, header-none}
+use Rattle.sheet.proofs.HeaderLaws.{header-is, header-none}
 use Rattle.sheet.proofs.SheetLaws.{kept, header-within}
 use borrow.Author.Needs.{needs}
 use Rattle.sheet.proofs.header.sheet.Statement.{statement}

@@ -2,10 +2,13 @@
 use mathlib.Core.Path.{sym, _∙_}
 use Rattle.rules.specs.Reading.{lineBy}
 use Rattle.rules.specs.declared.sheet.Frame.the-variants.{Bad}
-use Rattle.sheet.proofs.FrameLaws.{later-line, end-frame, node-frame}
+use Rattle.sheet.proofs.HeaderLaws.{later-line, end-frame, node-frame}
 use borrow.Author.Needs.{needs}
 use Rattle.sheet.proofs.line.line_at.Statement.{statement}
 use Rattle.sheet.proofs.line.line_at.Tie as tie
+
+cast-later-frame : tie.Need-cast-later-frame
+cast-later-frame c = search needs
 
 later-frame-requires : tie.Need-later-frame-requires
 later-frame-requires c κs = search needs
@@ -44,6 +47,7 @@ pub line-at-spec : {M : Type 1} → statement M
 line-at-spec =
     tie.close
     (tie.spec
+    cast-later-frame
     later-frame-requires
     enum-told
     enum-known-frame
