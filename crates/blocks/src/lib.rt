@@ -1,5 +1,6 @@
 // The blocks of the two windows (document 01, "Vector code"): the load rule and the store rule. A load reads the part of a window
 // that it names, or zeros where there is none; a store writes the part, or says that work has none. Both answer for every pass.
+use rules::limits::V;
 use rules::units::ByteOffset;
 use rules::units::VectorNumber;
 ghost use mathlib.Core.Path.{_≡_};
@@ -11,9 +12,7 @@ ghost use Rattle.rules.specs.Vectors.{blockOf, loaded};
 ghost use Rattle.blocks.specs.Places.{placeOf, tooMany, far};
 ghost use Rattle.blocks.specs.Storing.{stores, storing};
 
-// V, and the number of the block at address 0: an address is held with 2^31 added.
-const V: u64 = 16;
-
+// The number of the block at address 0: an address is held with 2^31 added.
 const BLOCK_ZERO: u64 = 134217728;
 
 // A pass whose block lies past every window at every address: a window has fewer than 2^63 bytes, which is 2^59 blocks.

@@ -1,6 +1,9 @@
 // 7 ALIGN, 8 BOUNDS and 9 CARRY: the store (line 1) and the loads, by line.
 use crate::Found;
 use graph::Header;
+use rules::limits::FIRST_NODE_LINE;
+use rules::limits::HEADER_LINE;
+use rules::limits::WORK;
 use rules::sheet::Row;
 use rules::units::Width;
 ghost use mathlib.Core.Path.{_≡_};
@@ -15,12 +18,6 @@ ghost use Rattle.graph.specs.Headers.{graphIn};
 ghost use Rattle.checks.specs.Founds.{answerOf};
 
 const LOAD: u64 = 1;
-
-const WORK: u64 = 0;
-
-const STORE_LINE: u64 = 1;
-
-const FIRST_NODE_LINE: u64 = 2;
 
 // Whole elements in so many bytes.
 fn whole(width: Width, bytes: u64) -> u64
@@ -89,7 +86,7 @@ pub fn align(head: Header, nodes: &[u64]) -> Found
 {
     let width = head.width;
     if !ranges::is_multiple(width, head.store.0) {
-        return Found::At(STORE_LINE);
+        return Found::At(HEADER_LINE);
     }
     let count = head.count;
     let mut k: u8 = 0;
@@ -108,7 +105,7 @@ pub fn bounds(head: Header, nodes: &[u64], work_len: u64, table_len: u64) -> Fou
 {
     let width = head.width;
     if beyond(width, head.elements, head.store.0, work_len) {
-        return Found::At(STORE_LINE);
+        return Found::At(HEADER_LINE);
     }
     let count = head.count;
     let mut k: u8 = 0;

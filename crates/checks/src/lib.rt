@@ -1,5 +1,8 @@
 // The refusals that every call judges alike, 5 to 9, each over all lines at once: what is found is the first place at fault. The
 // calls put them in their order.
+use rules::limits::V;
+use rules::limits::WORK;
+
 mod addresses;
 mod rows;
 
@@ -13,11 +16,7 @@ ghost use Rattle.rules.specs.Answers.{WINDOW};
 ghost use Rattle.rules.specs.Checks.{windowOk, windowCheck};
 ghost use Rattle.checks.specs.Founds.{answerOf};
 
-const V: u64 = 16;
-
 const WINDOW_MOST: u64 = 65536;
-
-const WORK: u64 = 0;
 
 const TABLE: u64 = 1;
 

@@ -1,6 +1,7 @@
 // 5 BARE: "place is the first line with a shift or a 32nd node".
 use crate::Found;
 use graph::Header;
+use rules::limits::FIRST_NODE_LINE;
 use rules::sheet::Row;
 ghost use mathlib.Core.Path.{_≡_};
 ghost use mathlib.Core.Bool.{_||_};
@@ -15,8 +16,6 @@ ghost use Rattle.checks.specs.Founds.{answerOf};
 const SHIFT: u64 = 4;
 
 const BARE_MOST: u8 = 31;
-
-const FIRST_NODE_LINE: u64 = 2;
 
 // A shift, or a 32nd node.
 fn row_not_bare(row: Row, k: u8) -> bool

@@ -1,4 +1,5 @@
 // Bytes, elements and vectors are counted apart: the conversions by D and V that the sections need, and p + n = B·F + e.
+use rules::limits::V;
 use rules::units::ByteOffset;
 use rules::units::ElementNumber;
 use rules::units::VectorNumber;
@@ -9,8 +10,6 @@ ghost use Rattle.rules.specs.Limits.{vectorBytes, elementsMost};
 ghost use Rattle.rules.specs.Units.{widthBytes, byteOfElement, elementOfByte};
 ghost use Rattle.rules.specs.Offsets.{storeOffset};
 ghost use Rattle.rules.specs.Code.{fullVectors, restElements};
-
-const V: u64 = 16;
 
 // F and e: how many whole vectors end in the stream, and the elements after the last of them.
 pub(crate) struct Split {

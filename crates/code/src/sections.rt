@@ -7,6 +7,7 @@ use emitting::BLOCK_ZERO;
 use emitting::put_load;
 use emitting::put_splice;
 use emitting::put_store;
+use rules::limits::WORK;
 use rules::nodes::LoadAt;
 use rules::units::ByteOffset;
 use rules::units::ElementNumber;
@@ -18,8 +19,6 @@ ghost use Rattle.rules.specs.Units.{widthBytes};
 ghost use Rattle.rules.specs.Trees.{nodeAt, treeAt};
 ghost use Rattle.rules.specs.Code.{onlySection, prologueSection, bodyOf, epilogueOf};
 ghost use Rattle.code.specs.Writing.{Written, Roomy, Root, newAndOld};
-
-const WORK: u64 = 0;
 
 // "Body, if F ≥ 2".
 const BODY_FROM: u64 = 2;

@@ -1,6 +1,8 @@
 // Writing instructions into a section, a row each: every kind has its function. Instruction k of a section writes register k, so a
 // row's number is its destination, and each function gives the next row. Every argument is answered for: a row that does not lie
 // in the section is not written, and what no entry can hold is cut to its low 32 bits.
+use rules::limits::INSTRUCTION_ENTRIES;
+use rules::limits::V;
 use rules::nodes::LoadAt;
 use rules::nodes::ShiftBy;
 use rules::program::Instruction;
@@ -13,8 +15,6 @@ ghost use Rattle.rules.specs.Machine.{Splat, Op, Splice};
 ghost use Rattle.rules.specs.Code.{pairUp};
 ghost use Rattle.emitting.specs.Putting.{cut, loadOf, pairOf, storeOf, handed, putting};
 
-const INSTRUCTION_ENTRIES: usize = 6;
-
 const LOAD: u32 = 1;
 
 const SPLAT: u32 = 2;
@@ -26,8 +26,6 @@ const PAIR: u32 = 4;
 const SPLICE: u32 = 5;
 
 const STORE: u32 = 6;
-
-const V: u64 = 16;
 
 // 2^32: what one unit of a splat's high half counts.
 const LOW_VALUES: u64 = 4294967296;

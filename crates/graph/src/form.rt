@@ -4,6 +4,9 @@ use crate::headers::count_in;
 use crate::headers::header_of;
 use crate::headers::in_range;
 use rules::answers::CheckAnswer;
+use rules::limits::FIRST_NODE_LINE;
+use rules::limits::HEADER_LINE;
+use rules::limits::NODES;
 ghost use mathlib.Core.Path.{_≡_};
 ghost use Rattle.rules.specs.Limits.{vectorBytes};
 ghost use Rattle.rules.specs.Answers.{ofCheck};
@@ -11,12 +14,6 @@ ghost use Rattle.rules.specs.Tables.{graphOf};
 ghost use Rattle.rules.specs.Checks.{formCheck};
 ghost use Rattle.graph.specs.Headers.{graphIn};
 ghost use Rattle.graph.specs.Forms.{RowsFound, endFound};
-
-const NODES: u64 = 64;
-
-const HEADER_LINE: u64 = 1;
-
-const FIRST_NODE_LINE: u64 = 2;
 
 // What the rows come to: a refusal, or how many nodes wait after them.
 pub(crate) enum Rows {

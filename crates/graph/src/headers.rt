@@ -1,4 +1,5 @@
 // The header of a graph handed over as tables: the head's first four entries, as the calls use them.
+use rules::limits::NODES;
 use rules::units::ByteOffset;
 use rules::units::Width;
 ghost use mathlib.Core.Path.{_≡_};
@@ -15,8 +16,6 @@ const N: usize = 1;
 const S: usize = 2;
 
 const COUNT: usize = 3;
-
-const NODES: u64 = 64;
 
 // D as a width, n, S, and the number of nodes.
 pub struct Header {

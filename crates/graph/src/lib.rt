@@ -8,15 +8,12 @@ pub use headers::Header;
 pub use headers::header_of;
 pub use links::left_inputs;
 use rules::answers::CheckAnswer;
+use rules::limits::HEAD_ENTRIES;
+use rules::limits::NODE_ENTRIES;
 ghost use mathlib.Core.Path.{_≡_};
 ghost use Rattle.rules.specs.Limits.{vectorBytes};
 ghost use Rattle.rules.specs.Answers.{ofCheck};
 ghost use Rattle.rules.specs.Calls.{checking};
-
-const HEAD_ENTRIES: usize = 10;
-
-// 64 rows of 3.
-const NODE_ENTRIES: usize = 192;
 
 // ROOM, then RANGE and SHAPE by line.
 pub fn check(head: &[u64], nodes: &[u64]) -> CheckAnswer

@@ -3,6 +3,7 @@
 use crate::elements::element_of;
 use crate::instructions::act;
 use rules::answers::RunAnswer;
+use rules::limits::INSTRUCTION_ENTRIES;
 use rules::program::Instruction;
 use rules::program::ProgramHead;
 use rules::units::VectorNumber;
@@ -18,8 +19,6 @@ ghost use Rattle.rules.specs.Tables.{programIn};
 ghost use Rattle.rules.specs.Calls.{ended};
 ghost use Rattle.kinds.specs.Trying.{state};
 ghost use Rattle.machine.specs.Running.{stood, ran};
-
-const INSTRUCTION_ENTRIES: usize = 6;
 
 // What a run goes by: the width of its elements, its budget, and the steps done so far.
 pub(crate) struct Run {

@@ -4,6 +4,7 @@ mod dominant;
 
 use crate::dominant::dominant;
 use graph::Header;
+use rules::limits::V;
 use rules::nodes::Offset;
 use rules::units::ByteOffset;
 ghost use mathlib.Core.Path.{_≡_};
@@ -12,9 +13,6 @@ ghost use Rattle.rules.specs.Trees.{nodeAt};
 ghost use Rattle.rules.specs.declared.nodes.Offset.the-variants.{Undefined};
 ghost use Rattle.moving.specs.Met.{dominantIn};
 ghost use Rattle.moving.specs.Rules.{at, moves, movesOf};
-
-// Bytes of a vector.
-pub const V: u64 = 16;
 
 // Where each load goes, undefined where it stays, and where the inputs of an op that disagree meet.
 pub struct Moves {

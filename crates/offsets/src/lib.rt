@@ -8,6 +8,8 @@ pub use pairs::agree;
 pub use pairs::join;
 use rules::answers::CheckAnswer;
 use rules::answers::OffsetAnswer;
+use rules::limits::HEADER_LINE;
+use rules::limits::V;
 use rules::nodes::Offset;
 use rules::units::ByteOffset;
 ghost use mathlib.Core.Path.{_≡_};
@@ -17,11 +19,6 @@ ghost use Rattle.rules.specs.Tables.{graphOf};
 ghost use Rattle.rules.specs.Checks.{offsetCheck};
 ghost use Rattle.rules.specs.Calls.{offsetChecking};
 ghost use Rattle.theory.proofs.FormLaws.{Formed};
-
-const V: u64 = 16;
-
-// "In 10 after them": the store's line comes after the nodes'.
-const STORE_LINE: u64 = 1;
 
 // The rules of the nodes, then the root's.
 fn judge(head: &[u64], nodes: &[u64]) -> OffsetAnswer
@@ -37,7 +34,7 @@ fn judge(head: &[u64], nodes: &[u64]) -> OffsetAnswer
             if agree(store, root) {
                 return OffsetAnswer::Done;
             }
-            OffsetAnswer::Offset(STORE_LINE)
+            OffsetAnswer::Offset(HEADER_LINE)
         }
     }
 }

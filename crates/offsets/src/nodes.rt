@@ -2,6 +2,8 @@
 use crate::pairs::agree;
 use crate::pairs::is_at;
 use crate::pairs::join;
+use rules::limits::FIRST_NODE_LINE;
+use rules::limits::V;
 use rules::nodes::Node;
 use rules::nodes::NodeRecord;
 use rules::nodes::Offset;
@@ -16,10 +18,6 @@ ghost use Rattle.rules.specs.Checks.{line};
 ghost use Rattle.rules.specs.declared.nodes.Offset.the-variants.{At};
 ghost use Rattle.graph.specs.Links.{lefts, leftIn, Linked};
 ghost use Rattle.offsets.specs.Judging.{given, judged, Known, NodesFound};
-
-const V: u64 = 16;
-
-const FIRST_NODE_LINE: u64 = 2;
 
 // The offset of a node whose rule is kept, or the line of a rule that is broken.
 pub(crate) enum Judged {

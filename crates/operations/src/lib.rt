@@ -1,6 +1,9 @@
 // The six operations on two elements (document 01, "Operations on unsigned elements modulo 2^(8D)"), at each width: what the lanes
 // of a vector and the plain loop both do. Sums and differences wrap at the element's width, so nothing carries into the next
 // element. Every function answers for every argument.
+use rules::limits::FOUR_MODULUS;
+use rules::limits::ONE_MODULUS;
+use rules::limits::TWO_MODULUS;
 use rules::units::Width;
 ghost use mathlib.Core.Path.{_≡_};
 ghost use Prim.Native.Nat.{_%_, min};
@@ -27,13 +30,6 @@ const TOP_TWO: u16 = 32768;
 const TOP_FOUR: u32 = 2147483648;
 
 const TOP_EIGHT: u64 = 9223372036854775808;
-
-// How many values an element has at each width; at eight bytes every u64 is one.
-const ONE_MODULUS: u64 = 256;
-
-const TWO_MODULUS: u64 = 65536;
-
-const FOUR_MODULUS: u64 = 4294967296;
 
 const OPERATION_LAST: u64 = 5;
 

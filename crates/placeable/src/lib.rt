@@ -3,6 +3,9 @@ use checks::Found;
 use graph::Header;
 use rules::answers::CheckAnswer;
 use rules::answers::PlaceAnswer;
+use rules::limits::HEAD_ENTRIES;
+use rules::limits::NODE_ENTRIES;
+use rules::limits::RULES_MOST;
 ghost use mathlib.Core.Path.{_≡_};
 ghost use mathlib.Core.Bool.{_||_};
 ghost use Rattle.rules.specs.Limits.{vectorBytes};
@@ -11,13 +14,6 @@ ghost use Rattle.rules.specs.Checks.{headShort, nodesShort};
 ghost use Rattle.rules.specs.Calls.{placeAnswer};
 ghost use Rattle.graph.specs.Headers.{graphIn};
 ghost use Rattle.placeable.specs.Judging.{tablesShort, lineChecks};
-
-const HEAD_ENTRIES: usize = 10;
-
-// 64 rows of 3.
-const NODE_ENTRIES: usize = 192;
-
-const RULES_MOST: u64 = 3;
 
 // Whether one of a sheet's two tables is too short.
 fn too_short(head: &[u64], nodes: &[u64]) -> bool

@@ -1,9 +1,7 @@
 // Prints what the four placing rules make of the loop sheet on standard input: `printing::places` of its first bytes, no more.
 use libc::STDIN_FILENO;
 use libc::STDOUT_FILENO;
-
-// "the first 2,048 bytes of standard input"
-const TEXT_MOST: usize = 2048;
+use rules::limits::TEXT_MOST;
 
 fn main() {
     let mut text = [0u8; TEXT_MOST];

@@ -2,8 +2,8 @@
 use crate::records::records;
 use crate::rows::write;
 use graph::Header;
-use moving::V;
 use moving::moves_of;
+use rules::limits::V;
 use rules::nodes::Offset;
 use rules::units::ByteOffset;
 ghost use mathlib.Core.Path.{_≡_};

@@ -1,9 +1,9 @@
 // The nodes of a bare sheet, each with the offset that its placed tree has. A node's inputs come before it, so one pass in the
 // order of the table knows them all. Records go by value: functions over a lent array of structs would have to be walked by hand.
 use moving::Moves;
-use moving::V;
 use offsets::agree;
 use offsets::join;
+use rules::limits::V;
 use rules::nodes::Node;
 use rules::nodes::NodeRecord;
 use rules::nodes::Offset;

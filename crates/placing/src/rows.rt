@@ -1,7 +1,7 @@
 // The rows of the placed tree, written in postfix order by recursion on node numbers: a node's inputs come before it.
 use crate::records::inputs_meet;
 use moving::Moves;
-use moving::V;
+use rules::limits::V;
 use rules::nodes::Node;
 use rules::nodes::NodeRecord;
 use rules::nodes::Offset;

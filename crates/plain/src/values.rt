@@ -1,5 +1,6 @@
 // The value of the tree at an element: by recursion on node numbers, since a node's inputs have lower numbers than the node.
 use crate::windows;
+use rules::limits::WORK;
 use rules::nodes::LoadAt;
 use rules::nodes::Node;
 use rules::units::ElementNumber;
@@ -14,8 +15,6 @@ ghost use Rattle.plain.specs.Evaluating.{Ranged, Evaluable, ElementAt, V
 
 // Nodes of a graph.
 pub(crate) const NODES: usize = 64;
-
-const WORK: u64 = 0;
 
 // "A load at i reads D bytes at A+iD from the window as it then stands."
 fn load_value(load: LoadAt, i: ElementNumber, width: Width, work: &[u8], table: &[u8]) -> u64

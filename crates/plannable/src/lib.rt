@@ -4,22 +4,16 @@ use checks::Found;
 use graph::Header;
 use rules::answers::CheckAnswer;
 use rules::answers::PlanAnswer;
+use rules::limits::HEAD_ENTRIES;
+use rules::limits::NODE_ENTRIES;
+use rules::limits::RULES_MOST;
+use rules::limits::SECTION_ENTRIES;
 ghost use mathlib.Core.Path.{_≡_};
 ghost use Rattle.rules.specs.Limits.{vectorBytes};
 ghost use Rattle.rules.specs.Answers.{first, ofPlan};
 ghost use Rattle.rules.specs.Calls.{bareChecks};
 ghost use Rattle.graph.specs.Headers.{graphIn};
 ghost use Rattle.plannable.specs.Judging.{tablesShort, lineChecks};
-
-const HEAD_ENTRIES: usize = 10;
-
-// 64 rows of 3.
-const NODE_ENTRIES: usize = 192;
-
-// 1,024 rows of 6.
-const SECTION_ENTRIES: usize = 6144;
-
-const RULES_MOST: u64 = 3;
 
 fn tables_short(
     head: &[u64],

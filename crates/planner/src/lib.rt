@@ -1,6 +1,8 @@
 // The one-step call: a bare sheet is placed by a rule and translated at once. It is judged first, 5 to 9 on the bare sheet and its
 // lines; then it is placed into tables of the call's own, and those are translated.
 use rules::answers::PlanAnswer;
+use rules::limits::HEAD_ENTRIES;
+use rules::limits::NODE_ENTRIES;
 use rules::program::ProgramHead;
 ghost use mathlib.Core.Path.{_≡_};
 ghost use Rattle.rules.specs.Limits.{vectorBytes};
@@ -20,11 +22,6 @@ const NO_PROGRAM: ProgramHead = ProgramHead {
     body: 0,
     epilogue: 0,
 };
-
-// Entries of a head, and of a table of 64 nodes.
-const HEAD_ENTRIES: usize = 10;
-
-const NODE_ENTRIES: usize = 192;
 
 // Plans a bare sheet for windows of so many bytes. ROOM leaves the sections as they are; another refusal leaves them all zero.
 pub fn plan(

@@ -4,6 +4,9 @@ use numbers::Numbered;
 use rules::answers::PlanAnswer;
 use rules::answers::ReadAnswer;
 use rules::answers::TranslateAnswer;
+use rules::limits::HEAD_ENTRIES;
+use rules::limits::NODE_ENTRIES;
+use rules::limits::SECTION_ENTRIES;
 use rules::nodes::Node;
 use rules::printing::Figures;
 use rules::program::ProgramHead;
@@ -13,13 +16,6 @@ ghost use Rattle.rules.specs.Printing.{placedFigures, drawnFigures};
 ghost use Rattle.sheet.specs.Left.{sheetLeft};
 ghost use Rattle.numbers.specs.Given.{answerOf};
 ghost use Rattle.printing.specs.Figuring.{refusal, shiftOf, shiftsIn, stepsIn, Countable, treeFigures};
-
-const HEAD_ENTRIES: usize = 10;
-
-const NODE_ENTRIES: usize = 192;
-
-// 1,024 rows of 6.
-const SECTION_ENTRIES: usize = 6144;
 
 // "takes both windows at 65,536 bytes"
 const WINDOW_BYTES: u64 = 65536;

@@ -8,19 +8,15 @@ pub use cases::Case;
 pub use cases::Cases;
 pub use cases::case_at;
 use rules::answers::ReadAnswer;
+use rules::limits::HEAD_ENTRIES;
+use rules::limits::NODE_ENTRIES;
+use rules::limits::TEXT_MOST;
 ghost use mathlib.Core.Path.{_≡_};
 ghost use lib.ListN.{take};
 ghost use Rattle.rules.specs.Limits.{textMost};
 ghost use Rattle.rules.specs.Calls.{reading};
 ghost use Rattle.rules.specs.Printing.{printed, drawn};
 ghost use Rattle.sheet.specs.Left.{sheetLeft};
-
-// "the first 2,048 bytes of standard input"
-const TEXT_MOST: usize = 2048;
-
-const HEAD_ENTRIES: usize = 10;
-
-const NODE_ENTRIES: usize = 192;
 
 const RULES: usize = 4;
 

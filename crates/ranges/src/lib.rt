@@ -1,5 +1,9 @@
 // The range rules (document 01, "3 RANGE: a field outside its range") as one piece: a sheet that is read and one that is
 // handed over as tables are judged by the same functions. Each answers for all numbers.
+use rules::limits::FOUR_MODULUS;
+use rules::limits::ONE_MODULUS;
+use rules::limits::TWO_MODULUS;
+use rules::limits::V;
 use rules::units::Width;
 ghost use mathlib.Core.Path.{_≡_};
 ghost use Prim.Native.Nat.{_%_};
@@ -16,15 +20,6 @@ const ADDRESS_MOST: u64 = 65535;
 const WINDOWS: u64 = 2;
 
 const OPERATIONS: u64 = 6;
-
-const V: u64 = 16;
-
-// How many values an element has at each width; at eight bytes every u64 is one.
-const ONE_MODULUS: u64 = 256;
-
-const TWO_MODULUS: u64 = 65536;
-
-const FOUR_MODULUS: u64 = 4294967296;
 
 fn is_width(d: u64) -> bool
     ensures { λ r. ⌜ r ≡ isWidth d ⌝ }

@@ -1,33 +1,28 @@
 // vshiftpair, vsplice and splat (document 01, "Vector code"): the bytes of two vectors reordered, and one value in every element.
 // Vectors go by value, and every function answers for every argument.
-ghost use mathlib.Core.Path.{_≡_};
-ghost use Prim.Native.Nat.{_+_, _-_, _*_, _/_, _%_, _^_, _<_};
-ghost use Rattle.rules.specs.Limits.{vectorBytes};
-ghost use Rattle.rules.specs.Units.{widthBytes};
-ghost use Rattle.rules.specs.Vectors.{vsplat, vshiftpair, vsplice};
+use rules::limits::FOUR_MODULUS;
+use rules::limits::ONE_MODULUS;
+use rules::limits::TWO_MODULUS;
+use rules::limits::V;
 use rules::units::Width;
 use vectors::EIGHTS;
 use vectors::FOURS;
 use vectors::TWOS;
 use vectors::VECTOR_BYTES;
 use vectors::Vector;
+ghost use mathlib.Core.Path.{_≡_};
+ghost use Prim.Native.Nat.{_+_, _-_, _*_, _/_, _%_, _^_, _<_};
+ghost use Rattle.rules.specs.Limits.{vectorBytes};
+ghost use Rattle.rules.specs.Units.{widthBytes};
+ghost use Rattle.rules.specs.Vectors.{vsplat, vshiftpair, vsplice};
 
-// V and the bytes of an element of eight, as shifts count.
-const V: u64 = 16;
-
+// The bytes of an element of eight.
 const HALF: u64 = 8;
 
 // The bits of one byte, and of the seven others of an element of eight.
 const BYTE_BITS: u64 = 8;
 
 const REST_BITS: u64 = 56;
-
-// How many values an element has at each width; at eight bytes every u64 is one.
-const ONE_MODULUS: u64 = 256;
-
-const TWO_MODULUS: u64 = 65536;
-
-const FOUR_MODULUS: u64 = 4294967296;
 
 // The element of eight bytes that starts m bytes into the lower of two neighbours. The shift up goes in two steps: for m = 0 it is
 // by all 64 bits, and one step must be by fewer.

@@ -1,6 +1,7 @@
-// The rules of document 01: the types that every layer shares. Their meaning is in specs/, the argument about it in
+// The rules of document 01: the types and numbers that every layer shares. Their meaning is in specs/, the argument about it in
 // proofs/; no code stands here.
 pub mod answers;
+pub mod limits;
 pub mod nodes;
 pub mod printing;
 pub mod program;

@@ -2,6 +2,8 @@
 use crate::lines::Ending;
 use crate::lines::read_lines;
 use rules::answers::ReadAnswer;
+use rules::limits::FIRST_NODE_LINE;
+use rules::limits::HEADER_LINE;
 use rules::sheet::Cursor;
 use rules::sheet::Fields;
 use rules::sheet::Frame;
@@ -13,11 +15,6 @@ ghost use lib.Seq.{sets};
 ghost use Rattle.rules.specs.Reading.{sheetOf, headerLine};
 ghost use Rattle.sheet.specs.Cursors.{lineBytes};
 ghost use Rattle.sheet.specs.Left.{sheetLeft, filled, Zeroed};
-
-// The lines' numbers: the header's, and that of the line after it.
-const HEADER_LINE: u64 = 1;
-
-const FIRST_LINE: u64 = 2;
 
 // Writes D, n, S and the number of nodes.
 fn put_head(head: &mut [u64], f: Fields, count: u64)
@@ -41,7 +38,7 @@ fn after_header(text: &[u8], f: Fields, head: &mut [u64], nodes: &mut [u64]) -> 
     let width = ranges::width_of(f.x);
     let first = Cursor {
         at: f.next,
-        line: FIRST_LINE,
+        line: FIRST_NODE_LINE,
         count: 0,
         waiting: 0,
     };

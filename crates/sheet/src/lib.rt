@@ -5,14 +5,11 @@ mod line;
 mod lines;
 
 use rules::answers::ReadAnswer;
+use rules::limits::HEAD_ENTRIES;
+use rules::limits::NODE_ENTRIES;
 ghost use mathlib.Core.Path.{_≡_};
 ghost use Rattle.rules.specs.Calls.{reading};
 ghost use Rattle.sheet.specs.Left.{sheetLeft};
-
-const HEAD_ENTRIES: usize = 10;
-
-// 64 nodes, a row of three entries each.
-const NODE_ENTRIES: usize = 192;
 
 // Reads a sheet into two lent tables: head takes D, n, S and the number of nodes, nodes each node's kind and fields. ROOM
 // leaves both as they were; every other refusal leaves them all zero.

@@ -1,5 +1,6 @@
 // What one line after the header does: LINE, then RANGE, then SHAPE, or reading goes on.
 use rules::answers::ReadAnswer;
+use rules::limits::NODES;
 use rules::sheet::Cursor;
 use rules::sheet::Fields;
 use rules::sheet::Frame;
@@ -10,8 +11,6 @@ ghost use mathlib.Core.Path.{_≡_};
 ghost use Rattle.rules.specs.Units.{widthBytes};
 ghost use Rattle.rules.specs.Reading.{nodeLine, endLine, lineAt};
 ghost use Rattle.sheet.specs.Cursors.{Reached};
-
-const NODES_MOST: u64 = 64;
 
 // A node frame: what it takes of those that wait is gone, and it waits itself.
 fn node_line(width: Width, here: Cursor, f: Fields) -> LineStep
@@ -25,7 +24,7 @@ fn node_line(width: Width, here: Cursor, f: Fields) -> LineStep
     if here.waiting < taken {
         return LineStep::Stop(ReadAnswer::Shape(here.line));
     }
-    if NODES_MOST <= here.count {
+    if NODES <= here.count {
         return LineStep::Stop(ReadAnswer::Shape(here.line));
     }
     let row = Row {

@@ -5,6 +5,7 @@ use graph::Header;
 use rules::answers::CheckAnswer;
 use rules::answers::OffsetAnswer;
 use rules::answers::TranslateAnswer;
+use rules::limits::SECTION_ENTRIES;
 ghost use mathlib.Core.Path.{_≡_};
 ghost use mathlib.Core.Bool.{_||_};
 ghost use Rattle.rules.specs.Limits.{vectorBytes};
@@ -13,9 +14,6 @@ ghost use Rattle.rules.specs.Checks.{sectionShort};
 ghost use Rattle.rules.specs.Calls.{checking, offsetChecking, translateAnswer};
 ghost use Rattle.graph.specs.Headers.{graphIn};
 ghost use Rattle.translatable.specs.Judging.{addressChecks, sizeCheck};
-
-// 1,024 rows of 6.
-const SECTION_ENTRIES: usize = 6144;
 
 const LONG_MOST: u64 = 1020;
 
