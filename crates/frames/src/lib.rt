@@ -1,5 +1,6 @@
 // The frame that stands at a place of the text: its kind byte, its fields and its line feed. Each kind has a function of its own,
-// which knows where its fields stand: one look at the length and one at each digit are enough.
+// which knows where its fields stand: one look at the length and one at each digit are enough. Every text and every place of 32
+// bits is answered for: past the end of the text there is no frame.
 mod digits;
 
 use crate::digits::Spelling;
