@@ -22,6 +22,7 @@ pub mod printing;
 pub mod programs;
 pub mod random;
 pub mod rows;
+pub mod runs;
 pub mod sheet;
 pub mod sheets;
 pub mod show;

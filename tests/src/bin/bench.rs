@@ -4,6 +4,8 @@
 //! before the first round and not cleared between.
 //!
 //!     bench                the library against careful Rust (placing and translating: against the tests' independent Rust)
+//!     bench --runs N       N runs of that, each a process of its own: the least times, their ratios, and the median of the ratios
+//!     bench --beside       one of those runs: no growth
 //!     bench --growth       only how translating grows
 //!     bench --independent  the tests' independent implementation in the library's place
 
@@ -13,10 +15,11 @@ use outside::loops::printed;
 use outside::machine::{self, Document};
 use outside::random::Random;
 use outside::rows::{load, op, pair, splat, splice, store};
+use outside::runs::together;
 use outside::translate::Translating;
 use outside::{careful, growth, timings, Answer, Head, Row, Run, DONE};
 use std::hint::black_box;
-use std::process::ExitCode;
+use std::process::{Command, ExitCode};
 use std::time::Instant;
 
 const ROUNDS: usize = 15;
@@ -152,16 +155,42 @@ fn compare_all(name: &str, calls: Calls, there: &[Call]) {
     timings::print(names, [calls, careful::CALLS], there);
 }
 
+fn usage() -> ExitCode {
+    eprintln!("bench [--runs N | --beside | --growth | --independent]");
+    ExitCode::from(2)
+}
+
+/// So many runs of this program, so that code and memory lie elsewhere in each, printed as one.
+fn print_runs(number: &str) -> ExitCode {
+    let Ok(number) = number.parse::<usize>() else {
+        return usage();
+    };
+    let run = |_| {
+        let done = Command::new(std::env::current_exe()?).arg("--beside").output()?;
+        Ok(String::from_utf8_lossy(&done.stdout).into_owned())
+    };
+    let runs: std::io::Result<Vec<String>> = (0..number).map(run).collect();
+    match runs.map_err(|error| error.to_string()).and_then(|runs| together(&runs)) {
+        Ok(printed) => {
+            print!("{printed}");
+            ExitCode::SUCCESS
+        }
+        Err(error) => {
+            eprintln!("{error}");
+            ExitCode::FAILURE
+        }
+    }
+}
+
 fn main() -> ExitCode {
     let arguments: Vec<String> = std::env::args().skip(1).collect();
-    let (beside, independent) = match arguments.iter().map(String::as_str).collect::<Vec<_>>()[..] {
-        [] => (true, false),
-        ["--growth"] => (false, false),
-        ["--independent"] => (true, true),
-        _ => {
-            eprintln!("bench [--growth | --independent]");
-            return ExitCode::from(2);
-        }
+    let (beside, grown, independent) = match arguments.iter().map(String::as_str).collect::<Vec<_>>()[..] {
+        [] => (true, true, false),
+        ["--runs", number] => return print_runs(number),
+        ["--beside"] => (true, false, false),
+        ["--growth"] => (false, true, false),
+        ["--independent"] => (true, true, true),
+        _ => return usage(),
     };
     let (name, calls, there) = match (independent, library()) {
         (true, _) => ("independent", INDEPENDENT, &ALL[..]),
@@ -174,7 +203,7 @@ fn main() -> ExitCode {
     if beside {
         compare_all(name, calls, there);
     }
-    if there == ALL {
+    if grown && there == ALL {
         growth::print(&calls);
     }
     ExitCode::SUCCESS
