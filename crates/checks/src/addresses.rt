@@ -7,7 +7,7 @@ use rules::limits::WORK;
 use rules::sheet::Row;
 use rules::units::Width;
 ghost use mathlib.Core.Path.{_≡_};
-ghost use mathlib.Core.Bool.{not, _&&_};
+ghost use mathlib.Core.Bool.{_&&_};
 ghost use Prim.Native.Nat.{_/_};
 ghost use lib.Dec.{eqb};
 ghost use Rattle.rules.specs.Units.{widthBytes};

@@ -8,7 +8,7 @@ use rules::nodes::Node;
 use rules::nodes::ShiftBy;
 use rules::units::VectorNumber;
 ghost use mathlib.Core.Path.{_≡_};
-ghost use Prim.Native.Nat.{_+_, _<_};
+ghost use Prim.Native.Nat.{_<_};
 ghost use Rattle.rules.specs.Limits.{vectorBytes};
 ghost use Rattle.rules.specs.Trees.{nodeAt, treeAt};
 ghost use Rattle.rules.specs.Code.{beside, code};

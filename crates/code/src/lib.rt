@@ -29,6 +29,7 @@ const NO_PROGRAM: ProgramHead = ProgramHead {
     epilogue: 0,
 };
 
+// Sets every entry of a section to 0.
 pub fn clear(section: &mut [u32])
     ensures { λ _. ⌜ now (section .exit) ≡ padded (length (now (section .entry))) [] ⌝ }
 {

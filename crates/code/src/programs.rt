@@ -11,8 +11,6 @@ use rules::units::ElementNumber;
 ghost use Prim.Native.Nat.{_-_, _≤_, _<_};
 ghost use Rattle.rules.specs.Limits.{vectorBytes, elementsMost};
 ghost use Rattle.rules.specs.Units.{widthBytes};
-ghost use Rattle.rules.specs.Trees.{nodeAt, treeAt};
-ghost use Rattle.rules.specs.Code.{programOf};
 ghost use Rattle.code.specs.Writing.{Roomy, Root};
 ghost use Rattle.code.specs.Emitting.{Emitted, headed};
 

@@ -4,6 +4,7 @@ use libc::STDIN_FILENO;
 use libc::STDOUT_FILENO;
 use printing::Cases;
 
+// More than all stored cases have; what stands past it is not read.
 const INPUT_MOST: usize = 65536;
 
 fn print_text(text: &[u8]) {

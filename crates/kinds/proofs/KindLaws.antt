@@ -16,10 +16,6 @@ use Rattle.blocks.specs.Storing.{Stores, stores, storing}
 use Rattle.kinds.specs.Trying.{Tried, tried, tryAs, state, ofState, anyWidth, registersKnown}
 
 module _ (k D : ℕ) (table : List ℕ) (j : ℕ) (i : Instruction) (regs : List (List ℕ)) (work : List ℕ) where
-  pub unreached-tried : reachesAs k vectorBytes (length work) j i ≡ false → tried false regs work ≡ tryAs k D table j i regs work
-  unfolding tryAs
-  unreached-tried e = rw e
-
   pub unknown-tried : fieldsAs k vectorBytes D i ≡ false → tried false regs work ≡ tryAs k D table j i regs work
   unfolding tryAs
   unknown-tried e = rw (e, and-false (reachesAs k vectorBytes (length work) j i))

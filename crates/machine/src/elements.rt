@@ -1,4 +1,4 @@
-// What instructions go by of an element, found once a section: a splat then goes by two numbers and not by the width.
+// What instructions go by of an element, found once a pass: a splat then goes by two numbers and not by the width.
 use rules::units::Width;
 ghost use mathlib.Core.Path.{_≡_};
 ghost use Rattle.machine.specs.Spreading.{Spreads};

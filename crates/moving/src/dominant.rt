@@ -1,6 +1,6 @@
 // DOMINANT's offset: how often each offset is met among the loads and the store, and which is met most often.
-use crate::V;
 use graph::Header;
+use rules::limits::V;
 use rules::nodes::Node;
 use rules::units::ByteOffset;
 ghost use mathlib.Core.Path.{_≡_};

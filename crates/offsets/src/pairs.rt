@@ -1,4 +1,4 @@
-// Two offsets together, and the rule of one node from its inputs' offsets.
+// Two offsets together: whether they agree, and which of them an op has; and whether one is where a shift takes it from.
 use rules::nodes::Offset;
 use rules::units::ByteOffset;
 ghost use mathlib.Core.Path.{_≡_};

@@ -1,5 +1,5 @@
 // The nodes of a bare sheet, each with the offset that its placed tree has. A node's inputs come before it, so one pass in the
-// order of the table knows them all. Records go by value: functions over a lent array of structs would have to be walked by hand.
+// order of the table knows them all. Records go by value: a reference to an array of structs is not covered.
 use moving::Moves;
 use offsets::agree;
 use offsets::join;

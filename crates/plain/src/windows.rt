@@ -36,7 +36,7 @@ fn width_bytes(width: Width) -> u64
     }
 }
 
-// The one place where an element's number becomes a number of bytes.
+// The byte at which element i of a stream begins, from the stream's start.
 fn byte_of_element(width: Width, i: ElementNumber) -> ByteOffset
     requires { ⌜ i .0 ≤ elementsMost ⌝ }
     ensures { λ r. ⌜ r ≡ byteOfElement (widthBytes width) i ⌝ }

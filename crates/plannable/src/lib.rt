@@ -1,5 +1,5 @@
 // Whether a bare sheet can be planned: the one-step call's refusals, in their order. Each check is another crate's; here they are
-// put in order. After them neither OFFSET nor LONG is ever given, so nothing is judged on the placed graph.
+// put in order. After them neither OFFSET nor LONG is ever given, so the placed graph is not judged here.
 use checks::Found;
 use graph::Header;
 use rules::answers::CheckAnswer;

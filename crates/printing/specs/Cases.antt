@@ -1,5 +1,5 @@
--- Several texts in one input. "each case begins at a byte `-`; what follows up to and including the next line feed is its name and is
--- passed over; then its text goes on to the next `-` or to the end of the input".
+-- Several texts in one input: a case begins at a byte `-`; what follows to the next line feed, that too, is its name and is passed
+-- over; then its text goes on to the next `-` or to the end of the input.
 use Prim.Native.Nat.{ℕ, zero, suc, _+_, _-_, min}
 use mathlib.Core.Bool.{cond}
 use mathlib.Core.List.{List}

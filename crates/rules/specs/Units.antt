@@ -25,9 +25,6 @@ byteOfElement D i = record { 0 = i .0 * D }
 abbrev pub elementOfByte : (D : ℕ) → ByteOffset → ElementNumber
 elementOfByte D b = record { 0 = b .0 / D }
 
--- the first byte of vector j, and the vector that holds a byte
+-- the first byte of vector j
 abbrev pub byteOfVector : (W : ℕ) → VectorNumber → ByteOffset
 byteOfVector W j = record { 0 = W * j .0 }
-
-abbrev pub vectorOfByte : (W : ℕ) → ByteOffset → VectorNumber
-vectorOfByte W b = record { 0 = b .0 / W }

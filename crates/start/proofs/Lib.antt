@@ -1,2 +1,3 @@
+pub mod Outcomes
 pub mod StartLaws
 pub mod ReadyLaws

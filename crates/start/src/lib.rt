@@ -77,6 +77,7 @@ fn start_width(head: ProgramHead) -> Start
     }
 }
 
+// What is found before the first step, or the width that the run goes on.
 pub fn begin(
     head: ProgramHead,
     prologue: &[u32],

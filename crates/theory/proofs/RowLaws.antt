@@ -29,15 +29,6 @@ length-rows (shift f g t) = rw (length-append (rows t), length-rows t) (omega ar
 pub entry-past : (before rest : List ℕ) (at m : ℕ) → at ≡ length before + m → getD (before ++ rest) at 0 ≡ getD rest m 0
 entry-past before rest at m p = rw p (getD-append-add before rest m 0)
 
--- so the node at a row is that of the entries which stand there
-pub node-past : (before rest : List ℕ) (k i : ℕ) → length before ≡ 3 * k → nodeAt (before ++ rest) (k + i) ≡ nodeAt rest i
-unfolding nodeAt
-node-past before rest k i e =
-    rw (
-      entry-past before rest (3 * (k + i) + 0) (3 * i + 0) (omega arith),
-      entry-past before rest (3 * (k + i) + 1) (3 * i + 1) (omega arith),
-      entry-past before rest (3 * (k + i) + 2) (3 * i + 2) (omega arith),
-    )
 
 -- the entries of row k, right after the first k
 pub cell-seam : (before rest : List ℕ) (k c : ℕ) → length before ≡ 3 * k → cell (before ++ rest) k c ≡ getD rest c 0
@@ -105,10 +96,6 @@ rows-read-back t after = ap top (rows-one-waits t after)
 pub length-padded : (len : ℕ) (made : List ℕ) → length made ≤ len → length (padded len made) ≡ len
 unfolding padded
 length-padded len made h = length-append made _ ∙ omega (arith, length-replicate {A = ℕ} (len - length made) 0)
-
-pub padded-one-waits : (len : ℕ) (t : Tree) → waiting (nodeAt (padded len (rows t))) (count t) ≡ t ∷ []
-unfolding padded
-padded-one-waits len t = rows-one-waits t _
 
 pub padded-rows-read-back : (len : ℕ) (t : Tree) → treeOf (padded len (rows t)) (count t) ≡ t
 unfolding padded

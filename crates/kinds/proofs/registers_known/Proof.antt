@@ -1,3 +1,4 @@
+-- Each of the three is compared with the number of registers.
 use borrow.Author.Tests.{le-ltb, lt-ltb}
 use Rattle.kinds.proofs.registers_known.Statement.{statement}
 use Rattle.kinds.proofs.registers_known.Tie as tie

@@ -1,3 +1,4 @@
+-- In each case of the rule the moves are its own.
 use mathlib.Core.Path.{_∙_}
 use Rattle.rules.specs.Limits.{vectorBytes}
 use Rattle.moving.specs.Rules.{movesOf}

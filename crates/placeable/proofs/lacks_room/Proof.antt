@@ -1,3 +1,4 @@
+-- The sheet's tables and those for the placed graph in turn.
 use mathlib.Core.Path.{sym, _∙_}
 use borrow.Author.Needs.{needs}
 use Rattle.placeable.proofs.lacks_room.Statement.{statement}

@@ -1,3 +1,4 @@
+-- Head and nodes in turn.
 use borrow.Author.Tests.{lt-ltb, le-ltb}
 use Rattle.placeable.proofs.too_short.Statement.{statement}
 use Rattle.placeable.proofs.too_short.Tie as tie

@@ -1,3 +1,4 @@
+-- ROOM leaves the tables, another refusal clears them, and otherwise they take the placed graph.
 use Rattle.placing.proofs.AnswerLaws.{done-accepted, room-leaves, done-leaves, refusal-leaves}
 use borrow.Author.Needs.{needs}
 use Rattle.placing.proofs.place.Statement.{statement}

@@ -1,3 +1,4 @@
+-- n, S and D in turn.
 use borrow.Author.Tests.{le-leb, lt-leb}
 use Rattle.rules.specs.Ranges.{headOk}
 use borrow.Author.Needs.{needs}

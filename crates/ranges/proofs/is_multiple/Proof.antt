@@ -1,3 +1,4 @@
+-- At each width the remainder is compared with 0.
 use borrow.Author.Needs.{needs}
 use Rattle.ranges.proofs.is_multiple.Statement.{statement}
 use Rattle.ranges.proofs.is_multiple.Tie as tie

@@ -1,3 +1,4 @@
+-- The four widths, and every other number.
 use borrow.Author.Tests.{ne-eqb}
 use Rattle.rules.specs.Units.{isWidth}
 use Rattle.ranges.proofs.is_width.Statement.{statement}

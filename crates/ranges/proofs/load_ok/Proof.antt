@@ -1,3 +1,4 @@
+-- Window and address in turn.
 use borrow.Author.Tests.{lt-ltb, le-ltb}
 use Rattle.rules.specs.Ranges.{loadOk}
 use Rattle.ranges.proofs.load_ok.Statement.{statement}

@@ -1,3 +1,4 @@
+-- An operation is compared with their number.
 use mathlib.Core.Path.{refl}
 use Rattle.rules.specs.Ranges.{opOk}
 use Rattle.ranges.proofs.op_ok.Statement.{statement}

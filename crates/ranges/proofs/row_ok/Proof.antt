@@ -1,3 +1,4 @@
+-- In each case of the kind the row's own rule is asked.
 use Rattle.rules.specs.Units.{widthBytes}
 use Rattle.rules.specs.Ranges.{rowOk}
 use Prim.Native.Nat.{ℕ}

@@ -1,3 +1,4 @@
+-- Bounds, that the two differ, and multiples, in turn.
 use borrow.Author.Tests.{lt-ltb, le-ltb, not-true, not-false}
 use Rattle.rules.specs.Ranges.{shiftOk}
 use borrow.Author.Needs.{needs}

@@ -1,3 +1,4 @@
+-- At each width the value is compared with what an element can hold.
 use mathlib.Core.Path.{sym}
 use borrow.Author.Tests.{lt-ltb}
 use Rattle.rules.specs.Elements.{modulus}

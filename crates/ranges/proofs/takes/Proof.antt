@@ -1,3 +1,4 @@
+-- In each case of the kind.
 use Rattle.rules.specs.Ranges.{takes}
 use Rattle.ranges.proofs.RangeLaws.{takes-none}
 use Rattle.ranges.proofs.takes.Statement.{statement}

@@ -1,3 +1,4 @@
+-- The four widths; every other number is taken as 8.
 use borrow.Author.Tests.{ne-eqb}
 use Rattle.ranges.specs.Widths.{widthOf}
 use Rattle.ranges.proofs.width_of.Statement.{statement}

@@ -1,3 +1,4 @@
+-- An entry past the end reads as 0.
 use mathlib.Core.Path.{sym}
 use lib.ListN.{List·getD-eq-default}
 use borrow.Author.Needs.{needs}

@@ -1,3 +1,4 @@
+-- In each case of the kind the node is that of the row's entries.
 use Prim.Native.Nat.{ℕ}
 use mathlib.Core.Path.{_≡_, refl, _∙_}
 use Rattle.rules.specs.Trees.{nodeOf}

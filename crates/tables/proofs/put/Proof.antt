@@ -1,3 +1,4 @@
+-- An entry past the end is not written.
 use mathlib.Core.Path.{sym}
 use lib.Seq.{set-out}
 use borrow.Author.Needs.{needs}

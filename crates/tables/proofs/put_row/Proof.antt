@@ -1,3 +1,4 @@
+-- Three entries, each put after the one before.
 use mathlib.Core.Path.{_∙_}
 use borrow.Author.Needs.{needs}
 use Rattle.tables.proofs.put_row.Statement.{statement}

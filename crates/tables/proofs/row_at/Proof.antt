@@ -1,3 +1,4 @@
+-- A row is its three entries.
 use native.Mathlib.Nat.{add-zero}
 use borrow.Author.Needs.{needs}
 use Rattle.tables.proofs.row_at.Statement.{statement}

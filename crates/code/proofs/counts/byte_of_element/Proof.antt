@@ -1,3 +1,4 @@
+-- At most 4,096 elements of 8 bytes: the product is small.
 use Prim.Native.Nat.{_≤_}
 -- The longest loop's bytes are far from the last number.
 use native.Mathlib.Nat.{mul-le-mul}

@@ -1,3 +1,4 @@
+-- p + n is divided by B, and nothing passes 2^64.
 use mathlib.Core.Path.{ap}
 use native.Mathlib.Nat.{div-le-self}
 use Rattle.rules.specs.Units.{widthBytes}

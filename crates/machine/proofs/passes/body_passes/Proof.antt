@@ -1,3 +1,4 @@
+-- The invariant: the passes from j on, run from here, end as the whole body run from its first pass does.
 use borrow.Author.Needs.{needs}
 use Prim.Native.Nat.{_+_, _-_}
 use mathlib.Core.Path.{_≡_, refl, _∙_}

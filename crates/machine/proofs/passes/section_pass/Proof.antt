@@ -1,3 +1,4 @@
+-- The invariant: what is left of the section, run from here, ends as the whole section run from its start does.
 use borrow.Author.Needs.{needs}
 use Prim.Native.Nat.{_-_, _≤_}
 use native.Mathlib.Omega.{arith}

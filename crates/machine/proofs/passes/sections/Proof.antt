@@ -1,3 +1,4 @@
+-- Prologue, body and epilogue in turn: what one leaves is what the next begins with.
 use Rattle.rules.specs.Units.{widthBytes}
 use Rattle.rules.specs.Machine.{blank}
 use Rattle.rules.specs.Tables.{programIn}

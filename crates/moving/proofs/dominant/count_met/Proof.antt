@@ -1,3 +1,4 @@
+-- The invariant: the counts are of the store and of the first k rows.
 use Prim.Native.Nat.{_+_, _-_, _%_, _≤_}
 use mathlib.Core.Path.{_≡_, sym, _∙_}
 use mathlib.Core.Logic.{⊎-elim}

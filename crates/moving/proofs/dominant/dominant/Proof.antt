@@ -1,3 +1,4 @@
+-- What is counted is what is met, and the offset met most often is DOMINANT's.
 use mathlib.Core.Path.{ap}
 use Rattle.rules.specs.Trees.{bytes, nodeAt}
 use Rattle.moving.proofs.MetLaws.{counted-dominant}

@@ -1,3 +1,4 @@
+-- The invariant: of the offsets so far the one kept is met most often, and is the smallest that is.
 use Prim.Native.Nat.{_≤_, _-_, _+_}
 use mathlib.Core.Path.{_≡_}
 use mathlib.Core.Logic.{⊎-elim}

@@ -1,3 +1,4 @@
+-- Rows first, since the head takes their number.
 use Prim.Native.Nat.{ℕ}
 use mathlib.Core.Path.{_≡_, ap, _∙_}
 use lib.ListN.{length}

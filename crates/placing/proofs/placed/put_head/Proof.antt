@@ -1,3 +1,4 @@
+-- Four entries of the head, the number of nodes as it is after placing.
 use lib.ListN.{length}
 use Rattle.placing.proofs.HandingLaws.{head-handed}
 use borrow.Author.Needs.{needs}

@@ -1,3 +1,4 @@
+-- The records of the bare sheet, then the rows of its placed tree from the root down.
 use Prim.Native.Nat.{_+_, _-_}
 use mathlib.Core.Path.{_≡_, ap}
 use native.Mathlib.Omega.{arith}

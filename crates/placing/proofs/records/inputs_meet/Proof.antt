@@ -1,3 +1,4 @@
+-- The two inputs' offsets, out of their records.
 use mathlib.Core.Path.{_∙_}
 use borrow.Author.Needs.{needs}
 use Rattle.placing.proofs.records.inputs_meet.Statement.{statement}

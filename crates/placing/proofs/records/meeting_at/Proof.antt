@@ -1,3 +1,4 @@
+-- Inputs that agree stay, and others meet.
 use mathlib.Core.Path.{sym, _∙_}
 use borrow.Author.Needs.{needs}
 use Rattle.placing.proofs.records.meeting_at.Statement.{statement}

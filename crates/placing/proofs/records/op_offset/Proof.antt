@@ -1,3 +1,4 @@
+-- Inputs that agree are joined; those that meet have their meeting's offset.
 use mathlib.Core.Path.{_∙_}
 use borrow.Author.Needs.{needs}
 use Rattle.placing.proofs.records.op_offset.Statement.{statement}

@@ -1,3 +1,4 @@
+-- In each case of the node, from its inputs' records.
 use mathlib.Core.Path.{sym, _∙_}
 use native.Mathlib.Omega.{arith}
 use Rattle.rules.specs.Limits.{vectorBytes}

@@ -1,3 +1,4 @@
+-- The invariant: the records of the first k nodes are those of the definition.
 use Prim.Native.Nat.{_≤_, _-_, _+_}
 use mathlib.Core.Path.{_≡_}
 use native.Mathlib.Omega.{arith}

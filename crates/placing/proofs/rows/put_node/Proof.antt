@@ -1,3 +1,4 @@
+-- The node's row, then a shift's.
 use Rattle.placing.proofs.RowLaws.{wrote-row, wrote-on}
 use borrow.Author.Needs.{needs}
 use Rattle.placing.proofs.rows.put_node.Statement.{statement}

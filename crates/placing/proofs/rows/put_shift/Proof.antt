@@ -1,3 +1,4 @@
+-- A shift's row is put only where both offsets are defined and differ.
 use borrow.Author.Tests.{eq-eqb, ne-eqb}
 use Rattle.placing.proofs.RowLaws.{wrote-none, wrote-row}
 use borrow.Author.Needs.{needs}

@@ -1,3 +1,4 @@
+-- Four entries, each put where the ones before it end.
 use mathlib.Core.Path.{_∙_}
 use borrow.Author.Needs.{needs}
 use Rattle.sheet.proofs.header.put_head.Statement.{statement}
