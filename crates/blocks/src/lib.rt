@@ -1,5 +1,6 @@
 // The blocks of the two windows (document 01, "Vector code"): the load rule and the store rule. A load reads the part of a window
 // that it names, or zeros where there is none; a store writes the part, or says that work has none. Both answer for every pass.
+use rules::limits::BLOCK_ZERO;
 use rules::limits::V;
 use rules::units::ByteOffset;
 use rules::units::VectorNumber;
@@ -12,8 +13,8 @@ ghost use Rattle.rules.specs.Vectors.{blockOf, loaded};
 ghost use Rattle.blocks.specs.Places.{placeOf, tooMany, far};
 ghost use Rattle.blocks.specs.Storing.{stores, storing};
 
-// The number of the block at address 0: an address is held with 2^31 added.
-const BLOCK_ZERO: u64 = 134217728;
+// V, as lengths count.
+const VECTOR_BYTES: usize = 16;
 
 // A pass whose block lies past every window at every address: a window has fewer than 2^63 bytes, which is 2^59 blocks.
 const FAR: u64 = BLOCK_ZERO + 576460752303423488;
@@ -55,10 +56,10 @@ fn fetch<'a>(work: &'a [u8], table: &'a [u8], from: u32, start: ByteOffset) -> &
 {
     let first = start.0 as usize;
     if from == 0 {
-        let end = first + 16;
+        let end = first + VECTOR_BYTES;
         &work[first..end]
     } else {
-        let end = first + 16;
+        let end = first + VECTOR_BYTES;
         &table[first..end]
     }
 }
@@ -70,7 +71,7 @@ fn window_len(work: &[u8], table: &[u8], from: u32) -> usize
 }
 
 // A part of sixteen bytes, by value.
-fn vector_of(part: &[u8]) -> [u8; 16]
+fn vector_of(part: &[u8]) -> [u8; VECTOR_BYTES]
     requires { ⌜ length (now part) ≡ vectorBytes ⌝ }
     ensures { λ r. ⌜ r ≡ now (part .entry) ⌝ }
 {
@@ -101,35 +102,35 @@ pub fn load<'a>(
     from: u32,
     address: u32,
     pass: VectorNumber,
-) -> [u8; 16]
+) -> [u8; VECTOR_BYTES]
     ensures { λ r. ⌜ r ≡ loaded vectorBytes (window from (now (work .entry)) (now (table .entry))) (blockOf vectorBytes address (pass .0)) ⌝ }
 {
     let len = window_len(work, table, from);
     let place = place_of(address, pass, len);
     match place {
         Place::Inside(start) => vector_of(fetch(work, table, from, start)),
-        Place::Outside => [0u8; 16],
+        Place::Outside => [0u8; VECTOR_BYTES],
     }
 }
 
-fn copy_vector(part: &mut [u8], v: [u8; 16])
+fn copy_vector(part: &mut [u8], v: [u8; VECTOR_BYTES])
     requires { ⌜ length (now part) ≡ vectorBytes ⌝ }
     ensures { λ _. ⌜ now (part .exit) ≡ v ⌝ }
 {
-    for i in 0..16 {
+    for i in 0..VECTOR_BYTES {
         part[i] = v[i];
     }
 }
 
 // The store rule: the part that is named is written, or false where work has none.
-pub fn store(work: &mut [u8], address: u32, pass: VectorNumber, v: [u8; 16]) -> bool
+pub fn store(work: &mut [u8], address: u32, pass: VectorNumber, v: [u8; VECTOR_BYTES]) -> bool
     ensures { λ r. ⌜ stores r (now (work .exit)) ≡ storing vectorBytes (now (work .entry)) (blockOf vectorBytes address (pass .0)) v ⌝ }
 {
     let place = place_of(address, pass, work.len());
     match place {
         Place::Inside(start) => {
             let first = start.0 as usize;
-            let end = first + 16;
+            let end = first + VECTOR_BYTES;
             copy_vector(&mut work[first..end], v);
             true
         }

@@ -23,8 +23,7 @@ work-fixed x r s v w a b =
 pub program-fixed : (x : PackedProgram) (r s : ℕ) (g g′ p p′ b b′ e e′ : List ℕ) → packedProgram r g p b e ≡ x
     → packedProgram s g′ p′ b′ e′ ≡ x → (r ≡ s) × (g ≡ g′) × (p ≡ p′) × (b ≡ b′) × (e ≡ e′)
 program-fixed x r s g g′ p p′ b b′ e e′ one other =
-    let q : packedProgram r g p b e ≡ packedProgram s g′ p′ b′ e′ = one ∙ sym other in
-    (
+    let q : packedProgram r g p b e ≡ packedProgram s g′ p′ b′ e′ = one ∙ sym other in (
       ap (λ (y : PackedProgram). y .answer) q,
       ap (λ (y : PackedProgram). y .program) q,
       ap (λ (y : PackedProgram). y .prologue) q,

@@ -18,7 +18,7 @@ use Rattle.rules.specs.declared.answers.PlanAnswer.{PlanAnswer}
 use Rattle.rules.specs.declared.answers.PlanAnswer.the-variants as Plan
 use Rattle.rules.specs.declared.program.ProgramHead.{ProgramHead}
 use Rattle.tables.proofs.TableLaws.{padded-put}
-use Rattle.code.specs.Emitting.{programGiven}
+use Rattle.code.specs.Programs.{programGiven}
 use Rattle.code.specs.declared.Translated.{Translated}
 use Rattle.planner.specs.Planning.{planGiven}
 use Rattle.planner.specs.declared.Planned.{Planned}

@@ -1,12 +1,10 @@
 // The program table: the head of a program, which C is lent a table for where Rattle has a struct.
+use numbers::ROOM;
 use rules::program::ProgramHead;
 ghost use mathlib.Core.Path.{_≡_};
 ghost use Prim.Native.Nat.{_≤_};
 ghost use lib.ListN.{length};
 ghost use Rattle.board.specs.Programs.{programEntries, programAfter};
-
-// A packed ROOM: its place and steps are 0.
-const ROOM: u64 = 1;
 
 pub(crate) const PROGRAM_ENTRIES: usize = 5;
 
@@ -21,7 +19,7 @@ const BODY: usize = 3;
 
 const EPILOGUE: usize = 4;
 
-// Leaves a head, which a refusal has as zeros, after a packed answer. ROOM leaves the table as it is.
+// Leaves a head, which a refusal has as zeros, after a packed answer. ROOM, which has neither place nor steps, leaves the table as it is.
 pub(crate) fn leave_program(answer: u64, head: ProgramHead, program: &mut [u64])
     requires { ⌜ programEntries ≤ length (now program) ⌝ }
     ensures { λ _. ⌜ now (program .exit) ≡ programAfter answer (now (program .entry)) head ⌝ }

@@ -3,6 +3,7 @@ use crate::Found;
 use graph::Header;
 use rules::limits::FIRST_NODE_LINE;
 use rules::limits::HEADER_LINE;
+use rules::limits::LOAD_KIND;
 use rules::limits::WORK;
 use rules::sheet::Row;
 use rules::units::Width;
@@ -16,8 +17,6 @@ ghost use Rattle.rules.specs.Answers.{ALIGN, BOUNDS, CARRY};
 ghost use Rattle.rules.specs.Checks.{beyond, misaligned, lengthOf, carries, alignCheck, boundsCheck, carryCheck};
 ghost use Rattle.graph.specs.Headers.{graphIn};
 ghost use Rattle.checks.specs.Founds.{answerOf};
-
-const LOAD: u64 = 1;
 
 // Whole elements in so many bytes.
 fn whole(width: Width, bytes: u64) -> u64
@@ -44,7 +43,7 @@ fn beyond(width: Width, n: u64, address: u64, end: u64) -> bool
 fn row_misaligned(width: Width, row: Row) -> bool
     ensures { λ r. ⌜ r ≡ (eqb (row .kind) loadKind && misaligned (widthBytes width) (row .y)) ⌝ }
 {
-    if row.kind != LOAD {
+    if row.kind != LOAD_KIND {
         return false;
     }
     !ranges::is_multiple(width, row.y)
@@ -53,7 +52,7 @@ fn row_misaligned(width: Width, row: Row) -> bool
 fn row_beyond(head: Header, row: Row, work_len: u64, table_len: u64) -> bool
     ensures { λ r. ⌜ r ≡ (eqb (row .kind) loadKind && beyond (widthBytes (head .width)) (head .elements) (row .y) (lengthOf (row .x) «work_len» «table_len»)) ⌝ }
 {
-    if row.kind != LOAD {
+    if row.kind != LOAD_KIND {
         return false;
     }
     let width = head.width;
@@ -67,7 +66,7 @@ fn row_beyond(head: Header, row: Row, work_len: u64, table_len: u64) -> bool
 fn row_carries(head: Header, row: Row) -> bool
     ensures { λ r. ⌜ r ≡ (eqb (row .kind) loadKind && carries (widthBytes (head .width)) (head .elements) (head .store .0) (row .x) (row .y)) ⌝ }
 {
-    if row.kind != LOAD {
+    if row.kind != LOAD_KIND {
         return false;
     }
     if row.x != WORK {

@@ -1,6 +1,7 @@
 // The refusals that every call judges alike, 5 to 9, each over all lines at once: what is found is the first place at fault. The
 // calls put them in their order.
 use rules::limits::V;
+use rules::limits::WINDOW_MOST;
 use rules::limits::WORK;
 
 mod addresses;
@@ -15,8 +16,6 @@ ghost use Rattle.rules.specs.Limits.{vectorBytes};
 ghost use Rattle.rules.specs.Answers.{WINDOW};
 ghost use Rattle.rules.specs.Checks.{windowOk, windowCheck};
 ghost use Rattle.checks.specs.Founds.{answerOf};
-
-const WINDOW_MOST: u64 = 65536;
 
 const TABLE: u64 = 1;
 

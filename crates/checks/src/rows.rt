@@ -2,6 +2,7 @@
 use crate::Found;
 use graph::Header;
 use rules::limits::FIRST_NODE_LINE;
+use rules::limits::SHIFT_KIND;
 use rules::sheet::Row;
 ghost use mathlib.Core.Path.{_≡_};
 ghost use mathlib.Core.Bool.{_||_};
@@ -13,15 +14,13 @@ ghost use Rattle.rules.specs.Checks.{bareCheck};
 ghost use Rattle.graph.specs.Headers.{graphIn};
 ghost use Rattle.checks.specs.Founds.{answerOf};
 
-const SHIFT: u64 = 4;
-
 const BARE_MOST: u8 = 31;
 
 // A shift, or a 32nd node.
 fn row_not_bare(row: Row, k: u8) -> bool
     ensures { λ r. ⌜ r ≡ (eqb (row .kind) shiftKind || leb bareMost k) ⌝ }
 {
-    if row.kind == SHIFT {
+    if row.kind == SHIFT_KIND {
         return true;
     }
     BARE_MOST <= k

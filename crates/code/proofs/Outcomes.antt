@@ -10,7 +10,7 @@ use Rattle.rules.specs.declared.program.ProgramHead.{ProgramHead}
 use Rattle.theory.proofs.AnswerLaws.{translate-told-apart}
 use Rattle.theory.proofs.Demands.{ProgramLeaves, translating-leaves}
 use Rattle.code.specs.declared.Translated.{Translated}
-use Rattle.code.specs.Emitting.{programGiven}
+use Rattle.code.specs.Programs.{programGiven}
 
 module _ (head nodes : List ℕ) (workLen tableLen : ℕ) (prologue body epilogue : List ℕ) where
   -- the contract of `translate`, of what it gives and of the sections afterwards

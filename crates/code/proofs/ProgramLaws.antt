@@ -7,7 +7,7 @@ use Rattle.rules.specs.Trees.{Tree}
 use Rattle.rules.specs.Code.{fullVectors, restElements, onlySection, prologueSection, bodyOf, epilogueOf, sections, programOf}
 use Rattle.rules.specs.declared.program.ProgramHead.{ProgramHead}
 use Rattle.code.specs.Writing.{Written}
-use Rattle.code.specs.Emitting.{Emitted}
+use Rattle.code.specs.Programs.{Emitted}
 use Rattle.code.proofs.WritingLaws.{written-none}
 
 module _ (W D n S : ℕ) (t : Tree) {d f e : ℕ} (is-D : d ≡ D) (is-F : f ≡ fullVectors W D n S) (is-e : e ≡ restElements W D n S)

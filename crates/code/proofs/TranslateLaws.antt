@@ -39,7 +39,7 @@ use Rattle.graph.proofs.HeaderLaws.{header-graph}
 use Rattle.translatable.proofs.JudgeLaws.{notDone, notRoom, Tagged}
 use Rattle.emitting.specs.Putting.{written}
 use Rattle.code.specs.Writing.{Written, Roomy, Ranged, Root}
-use Rattle.code.specs.Emitting.{headed, Emitted, programGiven}
+use Rattle.code.specs.Programs.{headed, Emitted, programGiven}
 
 -- ---- the tables
 

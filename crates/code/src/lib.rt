@@ -12,7 +12,7 @@ ghost use lib.ListN.{length};
 ghost use Rattle.rules.specs.Limits.{vectorBytes};
 ghost use Rattle.rules.specs.Tables.{padded};
 ghost use Rattle.rules.specs.Calls.{translating};
-ghost use Rattle.code.specs.Emitting.{programGiven};
+ghost use Rattle.code.specs.Programs.{programGiven};
 
 // What translating gives: its answer, and the head of the program, zero on a refusal.
 pub struct Translated {

@@ -12,7 +12,7 @@ ghost use Prim.Native.Nat.{_-_, _≤_, _<_};
 ghost use Rattle.rules.specs.Limits.{vectorBytes, elementsMost};
 ghost use Rattle.rules.specs.Units.{widthBytes};
 ghost use Rattle.code.specs.Writing.{Roomy, Root};
-ghost use Rattle.code.specs.Emitting.{Emitted, headed};
+ghost use Rattle.code.specs.Programs.{Emitted, headed};
 
 // Writes the sections from their first rows on, and gives the program's head.
 pub(crate) fn emit(

@@ -3,10 +3,10 @@
 use crate::counts::byte_of_element;
 use crate::counts::store_offset;
 use crate::expressions::gen_expr;
-use emitting::BLOCK_ZERO;
 use emitting::put_load;
 use emitting::put_splice;
 use emitting::put_store;
+use rules::limits::BLOCK_ZERO;
 use rules::limits::WORK;
 use rules::nodes::LoadAt;
 use rules::units::ByteOffset;

@@ -34,7 +34,7 @@ use Rattle.graph.proofs.Outcomes as graph-call
 use Rattle.offsets.proofs.Outcomes as offsets
 use Rattle.plain.proofs.Outcomes as plain
 use Rattle.placing.proofs.Outcomes as placing-call
-use Rattle.code.specs.Emitting.{programGiven}
+use Rattle.code.specs.Programs.{programGiven}
 use Rattle.code.specs.declared.Translated.{Translated}
 use Rattle.code.proofs.Outcomes as code
 use Rattle.planner.specs.Planning.{planGiven}

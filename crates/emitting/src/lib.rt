@@ -1,7 +1,9 @@
 // Writing instructions into a section, a row each: every kind has its function. Instruction k of a section writes register k, so a
 // row's number is its destination, and each function gives the next row. Every argument is answered for: a row that does not lie
 // in the section is not written, and what no entry can hold is cut to its low 32 bits.
+use rules::limits::BLOCK_ZERO;
 use rules::limits::INSTRUCTION_ENTRIES;
+use rules::limits::LOW_VALUES;
 use rules::limits::V;
 use rules::nodes::LoadAt;
 use rules::nodes::ShiftBy;
@@ -27,16 +29,10 @@ const SPLICE: u32 = 5;
 
 const STORE: u32 = 6;
 
-// 2^32: what one unit of a splat's high half counts.
-const LOW_VALUES: u64 = 4294967296;
-
 const VECTOR: u32 = 16;
 
 // The vectors in 2^32 bytes.
 const BLOCKS: u64 = 268435456;
-
-// The number of the block at address 0: an address is held with 2^31 added.
-pub const BLOCK_ZERO: u64 = 134217728;
 
 // A row that does not lie in the section is not written.
 fn put(section: &mut [u32], row: u32, i: Instruction) -> u32

@@ -8,6 +8,10 @@ use crate::digits::digit;
 use crate::digits::four_digits;
 use crate::digits::number;
 use crate::digits::two_digits;
+use rules::limits::LINE_FEED;
+use rules::limits::LOAD_KIND;
+use rules::limits::SHIFT_KIND;
+use rules::limits::SPLAT_KIND;
 use rules::sheet::Fields;
 use rules::sheet::Frame;
 ghost use mathlib.Core.Path.{_≡_};
@@ -20,12 +24,6 @@ ghost use Rattle.frames.specs.Numbers.{short, joined, places};
 ghost use Rattle.frames.specs.Headers.{headerOf, laterOf};
 
 const HEADER_KIND: u64 = 0;
-
-const LOAD_KIND: u64 = 1;
-
-const SPLAT_KIND: u64 = 2;
-
-const SHIFT_KIND: u64 = 4;
 
 // The digits of each kind, as the paper's table has them. An op and an end are of one length.
 const HEADER_DIGITS: usize = 12;
@@ -50,8 +48,6 @@ const VALUE_BYTES: usize = 8;
 
 // The first digit of every kind.
 const ZERO: u8 = 48;
-
-const LINE_FEED: u8 = 10;
 
 // Whether a line ends here. A place past the end of the text is no end.
 fn ended(text: &[u8], end: usize) -> bool

@@ -1,4 +1,8 @@
 // The header of a graph handed over as tables: the head's first four entries, as the calls use them.
+use rules::limits::HEAD_COUNT;
+use rules::limits::HEAD_D;
+use rules::limits::HEAD_N;
+use rules::limits::HEAD_S;
 use rules::limits::NODES;
 use rules::units::ByteOffset;
 use rules::units::Width;
@@ -7,15 +11,6 @@ ghost use Prim.Native.Nat.{min};
 ghost use lib.ListN.{getD};
 ghost use Rattle.rules.specs.Limits.{nodesMost};
 ghost use Rattle.graph.specs.Headers.{headInRange, headerOf};
-
-// Entries of a head.
-const D: usize = 0;
-
-const N: usize = 1;
-
-const S: usize = 2;
-
-const COUNT: usize = 3;
 
 // D as a width, n, S, and the number of nodes.
 pub struct Header {
@@ -39,9 +34,9 @@ fn rows_of(count: u64) -> u8
 pub(crate) fn in_range(head: &[u64]) -> bool
     ensures { λ r. ⌜ r ≡ headInRange (now (head .entry)) ⌝ }
 {
-    let d = tables::entry(head, D);
-    let n = tables::entry(head, N);
-    let s = tables::entry(head, S);
+    let d = tables::entry(head, HEAD_D);
+    let n = tables::entry(head, HEAD_N);
+    let s = tables::entry(head, HEAD_S);
     ranges::head_ok(d, n, s)
 }
 
@@ -49,16 +44,16 @@ pub(crate) fn in_range(head: &[u64]) -> bool
 pub(crate) fn count_in(head: &[u64]) -> u64
     ensures { λ r. ⌜ r ≡ getD (now (head .entry)) 3 0 ⌝ }
 {
-    tables::entry(head, COUNT)
+    tables::entry(head, HEAD_COUNT)
 }
 
 // The header of a head that passes; of any other what of it fits.
 pub fn header_of(head: &[u64]) -> Header
     ensures { λ r. ⌜ r ≡ headerOf (now (head .entry)) ⌝ }
 {
-    let width = ranges::width_of(tables::entry(head, D));
-    let elements = tables::entry(head, N);
-    let store = ByteOffset(tables::entry(head, S));
+    let width = ranges::width_of(tables::entry(head, HEAD_D));
+    let elements = tables::entry(head, HEAD_N);
+    let store = ByteOffset(tables::entry(head, HEAD_S));
     let count = rows_of(count_in(head));
     Header {
         width: width,

@@ -2,6 +2,7 @@
 // of an element. False is a FAULT, and then nothing is changed.
 use crate::elements::Element;
 use kinds::REGISTERS;
+use rules::limits::LOW_VALUES;
 use rules::program::Instruction;
 use rules::units::VectorNumber;
 use rules::units::Width;
@@ -11,9 +12,6 @@ ghost use Rattle.rules.specs.Frames.{splatKind};
 ghost use Rattle.rules.specs.Machine.{splatValue};
 ghost use Rattle.kinds.specs.Trying.{tried, tryAs, Tries};
 ghost use Rattle.machine.specs.Spreading.{Spreads};
-
-// 2^32: what one unit of a splat's high half counts.
-const LOW_VALUES: u64 = 4294967296;
 
 fn splat_value(i: Instruction) -> u64
     ensures { λ r. ⌜ r ≡ splatValue i ⌝ }

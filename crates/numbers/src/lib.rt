@@ -13,9 +13,9 @@ ghost use Rattle.rules.specs.Answers.{ofRead, ofCheck, ofOffset, ofPlain, ofPla
 ghost use Rattle.numbers.specs.Given.{answerOf, numbered};
 
 // The answers' numbers.
-const DONE: u64 = 0;
+pub const DONE: u64 = 0;
 
-const ROOM: u64 = 1;
+pub const ROOM: u64 = 1;
 
 const LINE: u64 = 2;
 

@@ -3,6 +3,10 @@ use crate::records::records;
 use crate::rows::write;
 use graph::Header;
 use moving::moves_of;
+use rules::limits::HEAD_COUNT;
+use rules::limits::HEAD_D;
+use rules::limits::HEAD_N;
+use rules::limits::HEAD_S;
 use rules::limits::V;
 use rules::nodes::Offset;
 use rules::units::ByteOffset;
@@ -14,15 +18,6 @@ ghost use Rattle.rules.specs.Tables.{padded, graphOf, headOf};
 ghost use Rattle.rules.specs.Calls.{placedGraph};
 ghost use Rattle.graph.specs.Headers.{graphIn};
 ghost use Rattle.placing.specs.Handing.{BareSheet, headWith, RowsPlaced};
-
-// Entries of a head.
-const D: usize = 0;
-
-const N: usize = 1;
-
-const S: usize = 2;
-
-const COUNT: usize = 3;
 
 // The rows of the placed tree; how many there are.
 fn put_rows(rule: u64, head: Header, nodes: &[u64], placed_nodes: &mut [u64]) -> u8
@@ -45,14 +40,14 @@ fn put_head(head: &[u64], count: u8, placed_head: &mut [u64])
     requires { ⌜ headEntries ≤ length (now «placed_head») ⌝ }
     ensures { λ _. ⌜ now («placed_head» .exit) ≡ padded (length (now («placed_head» .entry))) (headWith (now (head .entry)) count) ⌝ }
 {
-    let d = tables::entry(head, D);
-    let n = tables::entry(head, N);
-    let s = tables::entry(head, S);
+    let d = tables::entry(head, HEAD_D);
+    let n = tables::entry(head, HEAD_N);
+    let s = tables::entry(head, HEAD_S);
     tables::clear(placed_head);
-    tables::put(placed_head, D, d);
-    tables::put(placed_head, N, n);
-    tables::put(placed_head, S, s);
-    tables::put(placed_head, COUNT, count as u64);
+    tables::put(placed_head, HEAD_D, d);
+    tables::put(placed_head, HEAD_N, n);
+    tables::put(placed_head, HEAD_S, s);
+    tables::put(placed_head, HEAD_COUNT, count as u64);
 }
 
 pub(crate) fn hand_back(

@@ -1,6 +1,10 @@
 // The rows of the placed tree, written in postfix order by recursion on node numbers: a node's inputs come before it.
 use crate::records::inputs_meet;
 use moving::Moves;
+use rules::limits::LOAD_KIND;
+use rules::limits::OP_KIND;
+use rules::limits::SHIFT_KIND;
+use rules::limits::SPLAT_KIND;
 use rules::limits::V;
 use rules::nodes::Node;
 use rules::nodes::NodeRecord;
@@ -13,15 +17,6 @@ ghost use lib.ListN.{length};
 ghost use Rattle.rules.specs.Limits.{vectorBytes, nodesMost, rowEntries};
 ghost use Rattle.placing.specs.Writing.{shiftRow, Wrote};
 ghost use Rattle.placing.specs.Records.{Ready, movedRows};
-
-// The frames' kinds.
-const LOAD: u64 = 1;
-
-const SPLAT: u64 = 2;
-
-const OP: u64 = 3;
-
-const SHIFT: u64 = 4;
 
 // A shift's row, where both offsets are defined and differ; the next row.
 fn put_shift(table: &mut [u64], row: u8, here: Offset, to: Offset) -> u8
@@ -40,7 +35,7 @@ fn put_shift(table: &mut [u64], row: u8, here: Offset, to: Offset) -> u8
                     table,
                     row,
                     Row {
-                        kind: SHIFT,
+                        kind: SHIFT_KIND,
                         x: a.0,
                         y: g.0,
                     },
@@ -85,10 +80,10 @@ pub(crate) fn write(
             let address = load.address.0;
             let stands = Offset::At(ByteOffset(address % V));
             let loads = moves.loads;
-            let next = put_node(table, row, LOAD, load.window, address, stands, loads);
+            let next = put_node(table, row, LOAD_KIND, load.window, address, stands, loads);
             put_shift(table, next, offset, to)
         }
-        Node::Splat(value) => put_node(table, row, SPLAT, value, 0, offset, to),
+        Node::Splat(value) => put_node(table, row, SPLAT_KIND, value, 0, offset, to),
         Node::Op(operation) => {
             let left = lefts[at];
             let right = k - 1;
@@ -96,7 +91,7 @@ pub(crate) fn write(
             let meet = inputs_meet(recs, left, right, meeting);
             let middle = write(recs, lefts, moves, left, meet, row, table);
             let end = write(recs, lefts, moves, right, meet, middle, table);
-            put_node(table, end, OP, operation, 0, offset, to)
+            put_node(table, end, OP_KIND, operation, 0, offset, to)
         }
         // A bare sheet has none.
         Node::Shift(_) => row,

@@ -21,7 +21,7 @@ use Rattle.theory.proofs.Checked.{sixteen}
 use Rattle.theory.proofs.Demands.{tables-roomy, planned-unrefused}
 use Rattle.theory.proofs.Stepwise.{placed-translates}
 use Rattle.placing.specs.Handing.{sheetGiven}
-use Rattle.code.specs.Emitting.{programGiven}
+use Rattle.code.specs.Programs.{programGiven}
 use Rattle.code.specs.declared.Translated.{Translated}
 use Rattle.plannable.specs.Judging.{tablesShort}
 use Rattle.planner.specs.Planning.{planGiven}

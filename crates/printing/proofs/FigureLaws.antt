@@ -44,7 +44,7 @@ use Rattle.graph.proofs.HeaderLaws.{header-graph}
 use Rattle.sizes.specs.Sizing.{capped, sizeOf}
 use Rattle.sizes.proofs.SizeLaws.{checked-size}
 use Rattle.placing.specs.Handing.{sheetGiven}
-use Rattle.code.specs.Emitting.{programGiven}
+use Rattle.code.specs.Programs.{programGiven}
 use Rattle.code.specs.declared.Translated.{Translated}
 use Rattle.planner.specs.Planning.{planGiven}
 use Rattle.planner.specs.declared.Planned.{Planned}

@@ -1,11 +1,10 @@
 // Several texts in one input, as `edges` reads them: a case begins at a dash, its name goes to the next line feed, and its text from
 // there to the next dash or the end.
+use rules::limits::LINE_FEED;
 ghost use mathlib.Core.Path.{_≡_};
 ghost use Rattle.printing.specs.Cases.{placeOf, textStart, caseAt};
 
 const DASH: u8 = 45;
-
-const LINE_FEED: u8 = 10;
 
 // Where a case's text starts, and the place past it.
 pub struct Case {

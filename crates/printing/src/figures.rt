@@ -1,5 +1,6 @@
 // The figures of a line: of a refusal its number and place; on done the shifts, G and the steps of the loop's tree, taken from its
 // tables and its program.
+use numbers::DONE;
 use numbers::Numbered;
 use rules::answers::PlanAnswer;
 use rules::answers::ReadAnswer;
@@ -7,6 +8,7 @@ use rules::answers::TranslateAnswer;
 use rules::limits::HEAD_ENTRIES;
 use rules::limits::NODE_ENTRIES;
 use rules::limits::SECTION_ENTRIES;
+use rules::limits::WINDOW_MOST;
 use rules::nodes::Node;
 use rules::printing::Figures;
 use rules::program::ProgramHead;
@@ -16,11 +18,6 @@ ghost use Rattle.rules.specs.Printing.{placedFigures, drawnFigures};
 ghost use Rattle.sheet.specs.Left.{sheetLeft};
 ghost use Rattle.numbers.specs.Given.{answerOf};
 ghost use Rattle.printing.specs.Figuring.{refusal, shiftOf, shiftsIn, stepsIn, Countable, treeFigures};
-
-// "takes both windows at 65,536 bytes"
-const WINDOW_BYTES: u64 = 65536;
-
-const DONE: u64 = 0;
 
 // What a refusal prints: its number and its place alone.
 fn refusal(answer: Numbered) -> Figures
@@ -101,8 +98,8 @@ pub(crate) fn drawn_figures(answer: ReadAnswer, head: &[u64], nodes: &[u64]) -> 
     let program = code::translate(
         head,
         nodes,
-        WINDOW_BYTES,
-        WINDOW_BYTES,
+        WINDOW_MOST,
+        WINDOW_MOST,
         &mut prologue,
         &mut body,
         &mut epilogue,
@@ -129,8 +126,8 @@ pub(crate) fn placed_figures(answer: ReadAnswer, head: &[u64], nodes: &[u64], ru
         rule,
         head,
         nodes,
-        WINDOW_BYTES,
-        WINDOW_BYTES,
+        WINDOW_MOST,
+        WINDOW_MOST,
         &mut prologue,
         &mut body,
         &mut epilogue,

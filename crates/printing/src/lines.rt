@@ -1,4 +1,5 @@
 // A printed line: ten bytes as upper-case hexadecimal, and a line feed.
+use rules::limits::LINE_FEED;
 use rules::printing::Figures;
 ghost use mathlib.Core.Path.{_≡_};
 ghost use mathlib.Core.List.{[], _∷_, _++_};
@@ -7,8 +8,6 @@ ghost use lib.ListN.{length};
 ghost use lib.Seq.{sets};
 ghost use Rattle.rules.specs.Printing.{digitByte, hex, lineFeed, lineBytes, line};
 ghost use Rattle.printing.specs.Lines.{lineLength};
-
-const LINE_FEED: u8 = 10;
 
 // What a digit of 0 to 9 has added, and one of A to F.
 const DECIMAL: u8 = 48;

@@ -3,6 +3,10 @@ use crate::lines::Ending;
 use crate::lines::read_lines;
 use rules::answers::ReadAnswer;
 use rules::limits::FIRST_NODE_LINE;
+use rules::limits::HEAD_COUNT;
+use rules::limits::HEAD_D;
+use rules::limits::HEAD_N;
+use rules::limits::HEAD_S;
 use rules::limits::HEADER_LINE;
 use rules::sheet::Cursor;
 use rules::sheet::Fields;
@@ -20,10 +24,10 @@ ghost use Rattle.sheet.specs.Left.{sheetLeft, filled, Zeroed};
 fn put_head(head: &mut [u64], f: Fields, count: u64)
     ensures { λ _. ⌜ now (head .exit) ≡ sets (now (head .entry)) 0 (f .x ∷ f .y ∷ f .z ∷ count ∷ []) ⌝ }
 {
-    tables::put(head, 0, f.x);
-    tables::put(head, 1, f.y);
-    tables::put(head, 2, f.z);
-    tables::put(head, 3, count);
+    tables::put(head, HEAD_D, f.x);
+    tables::put(head, HEAD_N, f.y);
+    tables::put(head, HEAD_S, f.z);
+    tables::put(head, HEAD_COUNT, count);
 }
 
 // A sheet whose line 1 is a header.

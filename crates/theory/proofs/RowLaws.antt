@@ -29,7 +29,6 @@ length-rows (shift f g t) = rw (length-append (rows t), length-rows t) (omega ar
 pub entry-past : (before rest : List ℕ) (at m : ℕ) → at ≡ length before + m → getD (before ++ rest) at 0 ≡ getD rest m 0
 entry-past before rest at m p = rw p (getD-append-add before rest m 0)
 
-
 -- the entries of row k, right after the first k
 pub cell-seam : (before rest : List ℕ) (k c : ℕ) → length before ≡ 3 * k → cell (before ++ rest) k c ≡ getD rest c 0
 cell-seam before rest k c e = entry-past before rest (3 * k + c) c (omega arith)
