@@ -7,10 +7,7 @@ mod sections;
 use rules::answers::TranslateAnswer;
 use rules::program::ProgramHead;
 ghost use mathlib.Core.Path.{_≡_};
-ghost use mathlib.Core.List.{[]};
-ghost use lib.ListN.{length};
 ghost use Rattle.rules.specs.Limits.{vectorBytes};
-ghost use Rattle.rules.specs.Tables.{padded};
 ghost use Rattle.rules.specs.Calls.{translating};
 ghost use Rattle.code.specs.Programs.{programGiven};
 
@@ -28,17 +25,6 @@ const NO_PROGRAM: ProgramHead = ProgramHead {
     body: 0,
     epilogue: 0,
 };
-
-// Sets every entry of a section to 0.
-pub fn clear(section: &mut [u32])
-    ensures { λ _. ⌜ now (section .exit) ≡ padded (length (now (section .entry))) [] ⌝ }
-{
-    let mut i = 0;
-    while i < section.len() {
-        section[i] = 0;
-        i = i + 1;
-    }
-}
 
 // Translates a graph for windows of so many bytes. ROOM leaves the sections as they are; another refusal leaves them all zero.
 pub fn translate(
@@ -59,9 +45,9 @@ pub fn translate(
             head: NO_PROGRAM,
         };
     }
-    clear(prologue);
-    clear(body);
-    clear(epilogue);
+    emitting::clear(prologue);
+    emitting::clear(body);
+    emitting::clear(epilogue);
     let TranslateAnswer::Done = answer else {
         return Translated {
             answer: answer,

@@ -11,10 +11,13 @@ use rules::program::Instruction;
 use rules::units::ByteOffset;
 use rules::units::VectorNumber;
 ghost use mathlib.Core.Path.{_≡_};
+ghost use mathlib.Core.List.{[]};
 ghost use Prim.Native.Nat.{_+_, _*_, _/_};
+ghost use lib.ListN.{length};
 ghost use Rattle.rules.specs.Limits.{vectorBytes, lowValues};
 ghost use Rattle.rules.specs.Machine.{Splat, Op, Splice};
 ghost use Rattle.rules.specs.Code.{pairUp};
+ghost use Rattle.rules.specs.Tables.{padded};
 ghost use Rattle.emitting.specs.Putting.{cut, loadOf, pairOf, storeOf, handed, putting};
 
 const LOAD: u32 = 1;
@@ -173,4 +176,15 @@ pub fn put_store(section: &mut [u32], row: u32, source: u32, store: ByteOffset) 
         high: 0,
     };
     put(section, row, i)
+}
+
+// Sets every entry of a section to 0.
+pub fn clear(section: &mut [u32])
+    ensures { λ _. ⌜ now (section .exit) ≡ padded (length (now (section .entry))) [] ⌝ }
+{
+    let mut i = 0;
+    while i < section.len() {
+        section[i] = 0;
+        i = i + 1;
+    }
 }

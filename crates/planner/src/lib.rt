@@ -53,9 +53,9 @@ pub fn plan(
         };
     }
     let PlanAnswer::Done = answer else {
-        code::clear(prologue);
-        code::clear(body);
-        code::clear(epilogue);
+        emitting::clear(prologue);
+        emitting::clear(body);
+        emitting::clear(epilogue);
         return Planned {
             answer: answer,
             head: NO_PROGRAM,

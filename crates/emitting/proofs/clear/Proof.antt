@@ -7,8 +7,8 @@ use lib.Seq.{drop-length}
 use borrow.Author.Fill.{fill-more}
 use native.Mathlib.Omega.{arith}
 use Rattle.tables.proofs.TableLaws.{padded-none}
-use Rattle.code.proofs.clear.Statement.{statement}
-use Rattle.code.proofs.clear.Tie as tie
+use Rattle.emitting.proofs.clear.Statement.{statement}
+use Rattle.emitting.proofs.clear.Tie as tie
 
 abbrev Inv-loop : tie.InvT-loop
 Inv-loop section₀ i₀ section i = (i ≤ length section₀) × (section ≡ replicate i 0 ++ drop i section₀) × (length section ≡ length section₀)
