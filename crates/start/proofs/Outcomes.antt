@@ -20,6 +20,7 @@ widthBack (suc (suc (suc (suc zero)))) = Four
 widthBack (suc (suc (suc (suc (suc k))))) = Eight
 
 width-back : (w : Width) → widthBack (widthBytes w) ≡ w
+unfolding widthBack
 width-back One = refl
 width-back Two = refl
 width-back Four = refl
