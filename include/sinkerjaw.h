@@ -1,4 +1,4 @@
-/* Sinkerjaw for callers in C99 and C++: the calls of libboard.a, the tables they take and leave, and their answers.
+/* Sinkerjaw for callers in C99 and C++: the calls of libsinkerjaw.a, the tables they take and leave, and their answers.
    docs/CALLERS.md has how to build and link, the stack that calls take, and a worked example.
 
    The usual way is sinkerjaw_read (text into tables), sinkerjaw_plan (tables into a program) and sinkerjaw_run (the program on

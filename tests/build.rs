@@ -1,4 +1,4 @@
-//! Links ../target/staticlib/libboard.a, which `rt staticlib board` writes, and says which calls it has. Where it is not there
+//! Links ../target/staticlib/libsinkerjaw.a, which `rt staticlib sinkerjaw` writes, and says which calls it has. Where it is not there
 //! yet, everything but the library itself still builds: the self-check needs only what is in Rust.
 
 use std::path::Path;
@@ -7,16 +7,16 @@ const CALLS: [&str; 8] = ["read", "check", "offset_check", "plain", "place", "tr
 
 fn main() {
     let folder = Path::new(env!("CARGO_MANIFEST_DIR")).join("../target/staticlib");
-    let archive = folder.join("libboard.a");
+    let archive = folder.join("libsinkerjaw.a");
     println!("cargo:rerun-if-changed={}", archive.display());
     println!("cargo:rustc-check-cfg=cfg(linked, values(none(), \"{}\"))", CALLS.join("\", \""));
     let Ok(archive) = std::fs::read(archive) else {
-        println!("cargo:warning=built without the library: run `rt staticlib board` first");
+        println!("cargo:warning=built without the library: run `rt staticlib sinkerjaw` first");
         return;
     };
     println!("cargo:rustc-cfg=linked");
     println!("cargo:rustc-link-search=native={}", folder.display());
-    println!("cargo:rustc-link-lib=static=board");
+    println!("cargo:rustc-link-lib=static=sinkerjaw");
     let symbols = symbols(&archive).expect("an archive begins with the names that it defines");
     for call in CALLS {
         let name = format!("sinkerjaw_{call}");

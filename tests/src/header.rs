@@ -1,5 +1,5 @@
 //! `include/sinkerjaw.h` against this side, so that neither drifts: each constant against what the independent implementation
-//! takes it to be, each prototype, the document's too, against the functions of `crates/board` and the declarations of `board.rs`.
+//! takes it to be, each prototype, the document's too, against the functions of `crates/sinkerjaw` and the declarations of `board.rs`.
 
 use crate::graph::{Checking, Node, Sheet};
 use crate::machine::{Document, Rules, Vector};
@@ -23,7 +23,7 @@ pub fn texts() -> Texts {
         header: include_str!("../../include/sinkerjaw.h").to_string(),
         document: include_str!("../../docs/CALLERS.md").to_string(),
         declared: include_str!("board.rs").to_string(),
-        source: include_str!("../../crates/board/src/lib.rt").to_string(),
+        source: include_str!("../../crates/sinkerjaw/src/lib.rt").to_string(),
     }
 }
 
@@ -238,10 +238,10 @@ struct Function {
 
 fn prototype_differences(place: &str, found: &[Function], functions: &[Function]) -> Vec<String> {
     if found.len() != functions.len() {
-        return vec![format!("{place} has {} calls, crates/board has {}", found.len(), functions.len())];
+        return vec![format!("{place} has {} calls, crates/sinkerjaw has {}", found.len(), functions.len())];
     }
     let pairs = found.iter().zip(functions).filter(|(one, other)| one != other);
-    pairs.map(|(one, other)| format!("{place}: {}, and in crates/board {}", one.unlike(other), other.unlike(one))).collect()
+    pairs.map(|(one, other)| format!("{place}: {}, and in crates/sinkerjaw {}", one.unlike(other), other.unlike(one))).collect()
 }
 
 impl Function {

@@ -31,15 +31,15 @@ use Rattle.machine.specs.Running.{ran}
 use Rattle.machine.proofs.Outcomes as machine
 use Rattle.sheet.proofs.Outcomes as sheet
 use Rattle.graph.proofs.Outcomes as graph-call
-use Rattle.offsets.proofs.Outcomes as offsets
+use Rattle.graph_offsets.proofs.Outcomes as offsets
 use Rattle.plain.proofs.Outcomes as plain
 use Rattle.placing.proofs.Outcomes as placing-call
-use Rattle.code.specs.Programs.{programGiven}
-use Rattle.code.specs.declared.Translated.{Translated}
-use Rattle.code.proofs.Outcomes as code
-use Rattle.planner.specs.Planning.{planGiven}
-use Rattle.planner.specs.declared.Planned.{Planned}
-use Rattle.planner.proofs.Outcomes as planner
+use Rattle.translating.specs.Programs.{programGiven}
+use Rattle.translating.specs.declared.Translated.{Translated}
+use Rattle.translating.proofs.Outcomes as code
+use Rattle.planning.specs.Planning.{planGiven}
+use Rattle.planning.specs.declared.Planned.{Planned}
+use Rattle.planning.proofs.Outcomes as planner
 
 -- ---- demand 1: every input has one answer, and a refusal leaves what is lent as laid down
 

@@ -21,7 +21,7 @@ use Rattle.rules.specs.declared.answers.RunAnswer.the-variants as Run
 use Rattle.rules.proofs.answers.RunAnswer.{the-type}
 use Rattle.rules.specs.declared.program.Instruction.{Instruction}
 use Rattle.rules.specs.declared.program.ProgramHead.{ProgramHead}
-use Rattle.kinds.specs.Trying.{Tried, tried, state, ofState, tryAs}
+use Rattle.machine_kinds.specs.Trying.{Tried, tried, state, ofState, tryAs}
 use Rattle.machine.specs.Running.{stood, ran}
 
 -- ---- what is left

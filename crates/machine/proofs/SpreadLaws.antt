@@ -4,7 +4,7 @@ use Prim.Native.Nat.{ℕ, _+_, _*_, _<_}
 use mathlib.Core.Path.{_≡_, _∙_}
 use native.Mathlib.Omega.{arith}
 use Rattle.rules.specs.Vectors.{vsplat}
-use Rattle.reorder.proofs.SplatLaws.{splat-doubled}
+use Rattle.vector_bytes.proofs.SplatLaws.{splat-doubled}
 
 pub spread-four : (v : ℕ) → v < 4294967296 → vsplat 16 8 (v * 4294967297) ≡ vsplat 16 4 v
 unfolding vsplat

@@ -5,7 +5,7 @@ use Rattle.rules.specs.Answers.{ofRun}
 use Rattle.rules.specs.Machine.{Standing, standing}
 use Rattle.rules.specs.Calls.{WithWork}
 use Rattle.rules.specs.declared.answers.RunAnswer.{RunAnswer}
-use Rattle.kinds.specs.Trying.{state}
+use Rattle.machine_kinds.specs.Trying.{state}
 
 -- an answer with registers and work: Done while a run goes on
 abbrev pub stood : RunAnswer → List (List ℕ) → List ℕ → Standing

@@ -1,7 +1,7 @@
 // One instruction in one pass (document 01, "Vector code"), picked by its kind, and the splat, which goes by what its section found
 // of an element. False is a FAULT, and then nothing is changed.
 use crate::elements::Element;
-use kinds::REGISTERS;
+use machine_kinds::REGISTERS;
 use rules::limits::LOW_VALUES;
 use rules::program::Instruction;
 use rules::units::VectorNumber;
@@ -10,7 +10,7 @@ ghost use mathlib.Core.Path.{_≡_};
 ghost use Rattle.rules.specs.Units.{widthBytes};
 ghost use Rattle.rules.specs.Frames.{splatKind};
 ghost use Rattle.rules.specs.Machine.{splatValue};
-ghost use Rattle.kinds.specs.Trying.{tried, tryAs, Tries};
+ghost use Rattle.machine_kinds.specs.Trying.{tried, tryAs, Tries};
 ghost use Rattle.machine.specs.Spreading.{Spreads};
 
 fn splat_value(i: Instruction) -> u64
@@ -32,7 +32,7 @@ fn do_splat(element: Element, i: Instruction, registers: &mut [[u8; 16]; 1024]) 
         return false;
     }
     let spread = value * element.ones;
-    let v = reorder::vsplat(Width::Eight, spread);
+    let v = vector_bytes::vsplat(Width::Eight, spread);
     registers[i.destination as usize] = v;
     true
 }
@@ -51,12 +51,12 @@ pub(crate) fn act(
     let width = element.width;
     let kind = i.kind;
     match kind {
-        1 => kinds::do_load(i, pass, registers, work, table),
+        1 => machine_kinds::do_load(i, pass, registers, work, table),
         2 => do_splat(element, i, registers),
-        3 => kinds::do_op(width, i, registers),
-        4 => kinds::do_pair(i, registers),
-        5 => kinds::do_splice(i, registers),
-        6 => kinds::do_store(i, pass, registers, work),
+        3 => machine_kinds::do_op(width, i, registers),
+        4 => machine_kinds::do_pair(i, registers),
+        5 => machine_kinds::do_splice(i, registers),
+        6 => machine_kinds::do_store(i, pass, registers, work),
         _ => false,
     }
 }

@@ -3,9 +3,9 @@ mod elements;
 mod instructions;
 mod passes;
 
+use refusals_machine::Start;
 use rules::answers::RunAnswer;
 use rules::program::ProgramHead;
-use start::Start;
 ghost use mathlib.Core.Path.{_≡_};
 ghost use Rattle.rules.specs.Limits.{vectorBytes};
 ghost use Rattle.rules.specs.Calls.{running};
@@ -23,7 +23,7 @@ pub fn run(
 ) -> RunAnswer
     ensures { λ r. ⌜ ran r (now (work .exit)) ≡ running vectorBytes head (now (prologue .entry)) (now (body .entry)) (now (epilogue .entry)) budget (now (work .entry)) (now (table .entry)) ⌝ }
 {
-    let found = start::begin(head, prologue, body, epilogue, work, table);
+    let found = refusals_machine::begin(head, prologue, body, epilogue, work, table);
     match found {
         Start::Go(width) => passes::sections(
             width,

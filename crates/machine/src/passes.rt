@@ -17,7 +17,7 @@ ghost use Rattle.rules.specs.Answers.{DONE};
 ghost use Rattle.rules.specs.Machine.{instructionAt, instructionsFrom, inPass, passes, trace, standing, runs, start};
 ghost use Rattle.rules.specs.Tables.{programIn};
 ghost use Rattle.rules.specs.Calls.{ended};
-ghost use Rattle.kinds.specs.Trying.{state};
+ghost use Rattle.machine_kinds.specs.Trying.{state};
 ghost use Rattle.machine.specs.Running.{stood, ran};
 
 // What a run goes by: the width of its elements, its budget, and the steps done so far.

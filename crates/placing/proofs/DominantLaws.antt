@@ -18,8 +18,8 @@ use Rattle.rules.specs.Tables.{Graph}
 use Rattle.theory.proofs.Dominant.{Oftenest, dominant-oftenest}
 use Rattle.theory.proofs.RowLaws.{length-waiting}
 use Rattle.theory.proofs.FormLaws.{Formed, formed-one-waits}
-use Rattle.moving.specs.Met.{meets, metIn, Largest, largest, dominantIn}
-use Rattle.moving.proofs.MetLaws.{largest-is}
+use Rattle.placing_targets.specs.Met.{meets, metIn, Largest, largest, dominantIn}
+use Rattle.placing_targets.proofs.MetLaws.{largest-is}
 
 -- ---- rows and trees
 

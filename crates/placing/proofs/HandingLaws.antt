@@ -23,9 +23,9 @@ use Rattle.theory.proofs.Placed.{Unshifted}
 use Rattle.graph.specs.Links.{leftIn, lefts, Linked}
 use Rattle.graph.proofs.LinkLaws.{lefts-linked}
 use Rattle.graph.proofs.InputLaws.{some-node, root-tree}
-use Rattle.moving.specs.declared.Moves.{Moves}
-use Rattle.moving.specs.Met.{dominantIn}
-use Rattle.moving.specs.Rules.{at, movesOf}
+use Rattle.placing_targets.specs.declared.Moves.{Moves}
+use Rattle.placing_targets.specs.Met.{dominantIn}
+use Rattle.placing_targets.specs.Rules.{at, movesOf}
 use Rattle.placing.specs.Moves.{goes, moved}
 use Rattle.placing.specs.Writing.{Wrote}
 use Rattle.placing.specs.Records.{nodeIn, movedRows, Recorded, NoShift, Ready}

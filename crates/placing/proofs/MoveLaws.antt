@@ -12,8 +12,8 @@ use Rattle.rules.specs.declared.nodes.Offset.{Offset}
 use Rattle.rules.specs.declared.nodes.Offset.the-variants.{At, Undefined}
 use Rattle.theory.proofs.Placed.{toward-is, Unshifted, agree-at, loadsTo-agrees}
 use Rattle.theory.proofs.PlacedSize.{toward-at, join-left}
-use Rattle.moving.specs.declared.Moves.{Moves}
-use Rattle.moving.specs.Rules.{at, moves, movesOf}
+use Rattle.placing_targets.specs.declared.Moves.{Moves}
+use Rattle.placing_targets.specs.Rules.{at, moves, movesOf}
 use Rattle.placing.specs.Moves.{goes, opOffset, moved}
 
 -- what stands at g already stays

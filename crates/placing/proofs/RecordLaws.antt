@@ -18,10 +18,10 @@ use Rattle.rules.specs.declared.nodes.Offset.the-variants.{At, Undefined}
 use Rattle.rules.specs.declared.nodes.NodeRecord.{NodeRecord}
 use Rattle.graph.specs.Links.{leftIn, Linked, LinkedAt}
 use Rattle.graph.proofs.LinkLaws.{linked-node}
-use Rattle.moving.specs.declared.Moves.{Moves}
-use Rattle.moving.specs.Rules.{at}
+use Rattle.placing_targets.specs.declared.Moves.{Moves}
+use Rattle.placing_targets.specs.Rules.{at}
 use Rattle.placing.specs.Moves.{opOffset, moved}
-use Rattle.offsets.specs.Judging.{noRecord, offsetIn}
+use Rattle.graph_offsets.specs.Judging.{noRecord, offsetIn}
 use Rattle.placing.specs.Records.{nodeIn, movedOffset, recordOf, Recorded, NoShift, Ready}
 use Rattle.placing.proofs.MoveLaws.{load-offset, op-offset}
 

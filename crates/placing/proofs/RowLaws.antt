@@ -22,12 +22,12 @@ use Rattle.rules.specs.declared.nodes.Offset.the-variants.{At, Undefined}
 use Rattle.rules.specs.declared.nodes.NodeRecord.{NodeRecord}
 use Rattle.rules.specs.declared.sheet.Row.{Row}
 use Rattle.tables.specs.Rows.{rowPut}
-use Rattle.moving.specs.declared.Moves.{Moves}
-use Rattle.moving.specs.Rules.{at}
+use Rattle.placing_targets.specs.declared.Moves.{Moves}
+use Rattle.placing_targets.specs.Rules.{at}
 use Rattle.placing.specs.Moves.{goes, meetingAt, moved}
 use Rattle.placing.specs.Writing.{shiftRow, Wrote}
 use Rattle.graph.specs.Links.{leftIn}
-use Rattle.offsets.specs.Judging.{offsetIn}
+use Rattle.graph_offsets.specs.Judging.{offsetIn}
 use Rattle.placing.specs.Records.{nodeIn, movedOffset, movedRows, NoShift, Ready}
 use Rattle.graph.proofs.LinkLaws.{linked-node, linked-lower}
 

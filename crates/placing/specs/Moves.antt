@@ -6,8 +6,8 @@ use Rattle.rules.specs.Offsets.{agree, join, offset}
 use Rattle.rules.specs.Placing.{toward}
 use Rattle.rules.specs.declared.nodes.Offset.{Offset}
 use Rattle.rules.specs.declared.nodes.Offset.the-variants.{At, Undefined}
-use Rattle.moving.specs.declared.Moves.{Moves}
-use Rattle.moving.specs.Rules.{at}
+use Rattle.placing_targets.specs.declared.Moves.{Moves}
+use Rattle.placing_targets.specs.Rules.{at}
 
 -- t goes to an offset, or stays
 abbrev pub goes : (W : ℕ) → Offset → Tree → Tree

@@ -10,8 +10,8 @@ use Rattle.rules.specs.declared.nodes.Node.the-variants.{Load, Splat, Op, Shift
 use Rattle.rules.specs.declared.nodes.Offset.{Offset}
 use Rattle.rules.specs.declared.nodes.NodeRecord.{NodeRecord}
 use Rattle.graph.specs.Links.{leftIn, Linked}
-use Rattle.offsets.specs.Judging.{noRecord, offsetIn}
-use Rattle.moving.specs.declared.Moves.{Moves}
+use Rattle.graph_offsets.specs.Judging.{noRecord, offsetIn}
+use Rattle.placing_targets.specs.declared.Moves.{Moves}
 use Rattle.placing.specs.Moves.{goes, moved}
 
 abbrev pub nodeIn : List NodeRecord → ℕ → Node

@@ -19,7 +19,7 @@ pub fn place(
 ) -> PlaceAnswer
     ensures { λ r. ⌜ sheetGiven r (now («placed_head» .exit)) (now («placed_nodes» .exit)) ≡ placing vectorBytes rule (now (head .entry)) (now (nodes .entry)) (now («placed_head» .entry)) (now («placed_nodes» .entry)) ⌝ }
 {
-    let answer = placeable::judge(rule, head, nodes, placed_head, placed_nodes);
+    let answer = refusals_placing::judge(rule, head, nodes, placed_head, placed_nodes);
     match answer {
         PlaceAnswer::Room => PlaceAnswer::Room,
         PlaceAnswer::Done => {

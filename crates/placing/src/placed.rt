@@ -2,7 +2,7 @@
 use crate::records::records;
 use crate::rows::write;
 use graph::Header;
-use moving::moves_of;
+use placing_targets::moves_of;
 use rules::limits::HEAD_COUNT;
 use rules::limits::HEAD_D;
 use rules::limits::HEAD_N;

@@ -1,8 +1,8 @@
 // The nodes of a bare sheet, each with the offset that its placed tree has. A node's inputs come before it, so one pass in the
 // order of the table knows them all. Records go by value: a reference to an array of structs is not covered.
-use moving::Moves;
-use offsets::agree;
-use offsets::join;
+use graph_offsets::agree;
+use graph_offsets::join;
+use placing_targets::Moves;
 use rules::limits::V;
 use rules::nodes::Node;
 use rules::nodes::NodeRecord;
@@ -14,7 +14,7 @@ ghost use Rattle.rules.specs.Limits.{vectorBytes, nodesMost};
 ghost use Rattle.rules.specs.Trees.{nodeAt};
 ghost use Rattle.graph.specs.Links.{leftIn, Linked};
 ghost use Rattle.placing.specs.Moves.{meetingAt, opOffset};
-ghost use Rattle.offsets.specs.Judging.{offsetIn};
+ghost use Rattle.graph_offsets.specs.Judging.{offsetIn};
 ghost use Rattle.placing.specs.Records.{recordOf, Recorded};
 
 // Where the two inputs of an op go: nowhere if they agree, else to where they meet.

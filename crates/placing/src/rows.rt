@@ -1,6 +1,6 @@
 // The rows of the placed tree, written in postfix order by recursion on node numbers: a node's inputs come before it.
 use crate::records::inputs_meet;
-use moving::Moves;
+use placing_targets::Moves;
 use rules::limits::LOAD_KIND;
 use rules::limits::OP_KIND;
 use rules::limits::SHIFT_KIND;

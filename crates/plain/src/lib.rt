@@ -15,7 +15,7 @@ pub fn run_loop(head: &[u64], nodes: &[u64], work: &mut [u8], table: &[u8]) -> P
 {
     let work_len = work.len() as u64;
     let table_len = table.len() as u64;
-    let answer = loopable::judge(head, nodes, work_len, table_len);
+    let answer = refusals_plain::judge(head, nodes, work_len, table_len);
     if let PlainAnswer::Done = answer {
         let left = graph::left_inputs(nodes);
         looping::each_element(graph::header_of(head), nodes, &left, work, table);

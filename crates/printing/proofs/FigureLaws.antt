@@ -41,14 +41,14 @@ use Rattle.theory.proofs.Stepwise.{placed-translates}
 use Rattle.sheet.specs.Left.{sheetLeft}
 use Rattle.graph.specs.Headers.{headerOf}
 use Rattle.graph.proofs.HeaderLaws.{header-graph}
-use Rattle.sizes.specs.Sizing.{capped, sizeOf}
-use Rattle.sizes.proofs.SizeLaws.{checked-size}
+use Rattle.graph_size.specs.Sizing.{capped, sizeOf}
+use Rattle.graph_size.proofs.SizeLaws.{checked-size}
 use Rattle.placing.specs.Handing.{sheetGiven}
-use Rattle.code.specs.Programs.{programGiven}
-use Rattle.code.specs.declared.Translated.{Translated}
-use Rattle.planner.specs.Planning.{planGiven}
-use Rattle.planner.specs.declared.Planned.{Planned}
-use Rattle.planner.proofs.PlanLaws.{placing-is}
+use Rattle.translating.specs.Programs.{programGiven}
+use Rattle.translating.specs.declared.Translated.{Translated}
+use Rattle.planning.specs.Planning.{planGiven}
+use Rattle.planning.specs.declared.Planned.{Planned}
+use Rattle.planning.proofs.PlanLaws.{placing-is}
 use Rattle.printing.specs.Figuring.{refusal, shiftsIn, stepsIn, Countable, treeFigures}
 use Rattle.printing.proofs.ShiftLaws.{tree-shifts}
 

@@ -7,7 +7,7 @@ use native.Mathlib.Numerals.{add-one}
 use native.Mathlib.Omega.{arith}
 use lib.ListN.{length, getD, set, take, replicate, length-append, length-take}
 use lib.Seq.{sets, length-sets, sets-eq, take-suc, take-all, drop-length}
-use Rattle.code.proofs.WritingLaws.{sets-append}
+use Rattle.translating.proofs.WritingLaws.{sets-append}
 use Rattle.rules.specs.Limits.{nodesMost, headEntries, rowEntries, textMost}
 use Rattle.rules.specs.Calls.{WithSheet, reading}
 use Rattle.rules.specs.Printing.{digitByte, hex, lineFeed, line, sheetIn, placedFigures, drawnFigures, placedLines, printed, drawnLabel, drawn}

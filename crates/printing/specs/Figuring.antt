@@ -9,7 +9,7 @@ use Rattle.rules.specs.declared.nodes.Node.the-variants.{Load, Splat, Op, Shift
 use Rattle.rules.specs.declared.program.ProgramHead.{ProgramHead}
 use Rattle.rules.specs.declared.printing.Figures.{Figures}
 use Rattle.graph.specs.Headers.{headerOf}
-use Rattle.sizes.specs.Sizing.{sizeOf}
+use Rattle.graph_size.specs.Sizing.{sizeOf}
 
 abbrev pub refusal : Answer → Figures
 refusal answer = record { answer = answer .number; place = answer .place; shifts = 0; size = 0; steps = 0 }

@@ -1,7 +1,7 @@
 // The figures of a line: of a refusal its number and place; on done the shifts, G and the steps of the loop's tree, taken from its
 // tables and its program.
-use numbers::DONE;
-use numbers::Numbered;
+use answers::DONE;
+use answers::Numbered;
 use rules::answers::PlanAnswer;
 use rules::answers::ReadAnswer;
 use rules::answers::TranslateAnswer;
@@ -16,7 +16,7 @@ ghost use mathlib.Core.Path.{_≡_};
 ghost use Rattle.rules.specs.Trees.{nodeAt};
 ghost use Rattle.rules.specs.Printing.{placedFigures, drawnFigures};
 ghost use Rattle.sheet.specs.Left.{sheetLeft};
-ghost use Rattle.numbers.specs.Given.{answerOf};
+ghost use Rattle.answers.specs.Given.{answerOf};
 ghost use Rattle.printing.specs.Figuring.{refusal, shiftOf, shiftsIn, stepsIn, Countable, treeFigures};
 
 // What a refusal prints: its number and its place alone.
@@ -74,7 +74,7 @@ fn tree_figures(head: &[u64], nodes: &[u64], program: ProgramHead) -> Figures
 {
     let header = graph::header_of(head);
     let shifts = count_shifts(nodes, header.count);
-    let size = sizes::size(head, nodes);
+    let size = graph_size::size(head, nodes);
     let steps = count_steps(program);
     Figures {
         answer: DONE,
@@ -90,12 +90,12 @@ pub(crate) fn drawn_figures(answer: ReadAnswer, head: &[u64], nodes: &[u64]) -> 
     ensures { λ r. ⌜ r ≡ drawnFigures (sheetLeft answer (now (head .entry)) (now (nodes .entry))) ⌝ }
 {
     let ReadAnswer::Done = answer else {
-        return refusal(numbers::of_read(answer));
+        return refusal(answers::of_read(answer));
     };
     let mut prologue = [0u32; SECTION_ENTRIES];
     let mut body = [0u32; SECTION_ENTRIES];
     let mut epilogue = [0u32; SECTION_ENTRIES];
-    let program = code::translate(
+    let program = translating::translate(
         head,
         nodes,
         WINDOW_MOST,
@@ -106,7 +106,7 @@ pub(crate) fn drawn_figures(answer: ReadAnswer, head: &[u64], nodes: &[u64]) -> 
     );
     let translated = program.answer;
     let TranslateAnswer::Done = translated else {
-        return refusal(numbers::of_translate(translated));
+        return refusal(answers::of_translate(translated));
     };
     let made = program.head;
     tree_figures(head, nodes, made)
@@ -117,12 +117,12 @@ pub(crate) fn placed_figures(answer: ReadAnswer, head: &[u64], nodes: &[u64], ru
     ensures { λ r. ⌜ r ≡ placedFigures (sheetLeft answer (now (head .entry)) (now (nodes .entry))) rule ⌝ }
 {
     let ReadAnswer::Done = answer else {
-        return refusal(numbers::of_read(answer));
+        return refusal(answers::of_read(answer));
     };
     let mut prologue = [0u32; SECTION_ENTRIES];
     let mut body = [0u32; SECTION_ENTRIES];
     let mut epilogue = [0u32; SECTION_ENTRIES];
-    let program = planner::plan(
+    let program = planning::plan(
         rule,
         head,
         nodes,
@@ -134,7 +134,7 @@ pub(crate) fn placed_figures(answer: ReadAnswer, head: &[u64], nodes: &[u64], ru
     );
     let planned = program.answer;
     let PlanAnswer::Done = planned else {
-        return refusal(numbers::of_plan(planned));
+        return refusal(answers::of_plan(planned));
     };
     let mut placed_head = [0u64; HEAD_ENTRIES];
     let mut placed_nodes = [0u64; NODE_ENTRIES];

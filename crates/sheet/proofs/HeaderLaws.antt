@@ -14,7 +14,7 @@ use Rattle.rules.specs.declared.sheet.LineStep.the-variants.{Stop}
 use Rattle.rules.specs.declared.sheet.Fields.{Fields}
 use Rattle.rules.specs.declared.sheet.Frame.{Frame}
 use Rattle.rules.specs.declared.sheet.Frame.the-variants.{Bad, Is}
-use Rattle.frames.specs.Headers.{headerOf, laterOf}
+use Rattle.sheet_frames.specs.Headers.{headerOf, laterOf}
 
 -- ---- a later line
 

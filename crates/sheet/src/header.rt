@@ -60,7 +60,7 @@ pub(crate) fn sheet(text: &[u8], head: &mut [u64], nodes: &mut [u64]) -> ReadAns
     requires { ⌜ Zeroed (now head) (now nodes) ⌝ }
     ensures { λ r. ⌜ sheetLeft r (now (head .exit)) (now (nodes .exit)) ≡ filled (length (now (head .entry))) (length (now (nodes .entry))) (sheetOf (now (text .entry))) ⌝ }
 {
-    let frame = frames::header_frame(text);
+    let frame = sheet_frames::header_frame(text);
     match frame {
         Frame::Bad => ReadAnswer::Line(HEADER_LINE),
         Frame::Is(f) => after_header(text, f, head, nodes),

@@ -66,7 +66,7 @@ pub(crate) fn line_at(text: &[u8], width: Width, here: Cursor) -> LineStep
     requires { ⌜ Reached here ⌝ }
     ensures { λ r. ⌜ r ≡ lineAt (now (text .entry)) (widthBytes width) here ⌝ }
 {
-    let frame = frames::later_frame(text, here.at as u32);
+    let frame = sheet_frames::later_frame(text, here.at as u32);
     match frame {
         Frame::Bad => LineStep::Stop(ReadAnswer::Line(here.line)),
         Frame::Is(f) => {

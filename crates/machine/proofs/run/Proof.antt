@@ -1,6 +1,6 @@
 -- `run`: refused at the start, or the three sections.
 use Rattle.rules.specs.Units.{widthBytes}
-use Rattle.start.proofs.ReadyLaws.{ready}
+use Rattle.refusals_machine.proofs.ReadyLaws.{ready}
 use Rattle.machine.proofs.PassLaws.{run-goes, run-refused}
 use borrow.Author.Needs.{needs}
 use Rattle.machine.proofs.run.Statement.{statement}

@@ -1,7 +1,7 @@
 -- `act`: the kind that is named, and no other kind is known.
 use mathlib.Core.Path.{_∙_}
 use Rattle.rules.specs.Units.{widthBytes}
-use Rattle.kinds.proofs.KindLaws.{of-kind, no-kind, load-by-bytes, pair-by-bytes, splice-by-bytes, store-by-bytes}
+use Rattle.machine_kinds.proofs.KindLaws.{of-kind, no-kind, load-by-bytes, pair-by-bytes, splice-by-bytes, store-by-bytes}
 use borrow.Author.Needs.{needs}
 use Rattle.machine.proofs.instructions.act.Statement.{statement}
 use Rattle.machine.proofs.instructions.act.Tie as tie

@@ -8,7 +8,7 @@ use borrow.Author.Tests.{le-ltb, lt-ltb}
 use Rattle.rules.specs.Elements.{modulus}
 use Rattle.rules.specs.Units.{widthBytes}
 use Rattle.rules.specs.Machine.{fieldsAs, reachesAs, effectAs}
-use Rattle.kinds.specs.Trying.{tryAs}
+use Rattle.machine_kinds.specs.Trying.{tryAs}
 use Rattle.machine.proofs.instructions.do_splat.Statement.{statement}
 use Rattle.machine.proofs.instructions.do_splat.Tie as tie
 

@@ -7,7 +7,7 @@ use Rattle.rules.specs.Limits.{vectorBytes}
 use Rattle.rules.specs.Units.{widthBytes}
 use Rattle.rules.specs.Answers.{DONE}
 use Rattle.rules.specs.Machine.{instructionsFrom, inPass, passes, standing, runs}
-use Rattle.kinds.specs.Trying.{state}
+use Rattle.machine_kinds.specs.Trying.{state}
 use Rattle.machine.proofs.PassLaws.{passes-more, passes-none, part-done, part-stopped}
 use Rattle.machine.proofs.passes.body_passes.Statement.{statement}
 use Rattle.machine.proofs.passes.body_passes.Tie as tie

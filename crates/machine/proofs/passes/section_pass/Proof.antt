@@ -9,7 +9,7 @@ use Rattle.rules.specs.Limits.{vectorBytes}
 use Rattle.rules.specs.Units.{widthBytes}
 use Rattle.rules.specs.Answers.{DONE}
 use Rattle.rules.specs.Machine.{instructionsFrom, inPass, standing, runs}
-use Rattle.kinds.specs.Trying.{state}
+use Rattle.machine_kinds.specs.Trying.{state}
 use Rattle.machine.proofs.PassLaws.{rows-none, out-first, fault-first, step-first}
 use Rattle.machine.proofs.passes.section_pass.Statement.{statement}
 use Rattle.machine.proofs.passes.section_pass.Tie as tie

@@ -14,11 +14,11 @@ use Rattle.rules.specs.declared.nodes.LoadAt.{LoadAt}
 use Rattle.rules.specs.declared.nodes.Node.the-variants.{Load, Splat, Op}
 use Rattle.rules.specs.declared.nodes.Offset.{Offset}
 use Rattle.rules.specs.declared.nodes.NodeRecord.{NodeRecord}
-use Rattle.moving.specs.Rules.{at}
+use Rattle.placing_targets.specs.Rules.{at}
 use Rattle.placing.specs.Moves.{meetingAt}
 use Rattle.placing.specs.Writing.{shiftRow}
 use Rattle.graph.specs.Links.{leftIn}
-use Rattle.offsets.specs.Judging.{offsetIn}
+use Rattle.graph_offsets.specs.Judging.{offsetIn}
 use Rattle.placing.specs.Records.{nodeIn, movedRows, Ready}
 use Rattle.placing.proofs.RowLaws.{wrote-on, ready-lower, load-rows, load-length, splat-rows, input-below, op-rows, op-length, never-shift}
 use Rattle.placing.proofs.rows.write.Reads as write
