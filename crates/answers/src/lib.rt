@@ -1,5 +1,6 @@
 // "Numbers the translator gives back": the number, the place and the steps of each case of each call's answer, for callers that
 // have no enums: C, and what is printed.
+#![tactic(auto)]
 ghost use Rattle.std.specs.Prelude.{◌≡◌};
 ghost use Rattle.rules.specs.Answers.{of_read, of_check, of_offset, of_plain, of_place, of_translate, of_run, of_plan};
 ghost use Rattle.answers.specs.Given.{answer_of, numbered};
@@ -38,7 +39,7 @@ const OUT: u64 = 12;
 
 const FAULT: u64 = 13;
 
-#[derive(Drop)]
+#[derive(Clone, Copy)]
 pub struct Numbered {
     pub number: u64,
     pub place: u64,

@@ -12,7 +12,7 @@ use rules::answers::CheckAnswer;
 use rules::limits::{FIRST_NODE_LINE, HEADER_LINE, NODES};
 
 // What the rows come to: a refusal, or how many nodes wait after them.
-#[derive(Drop)]
+#[derive(Clone, Copy)]
 pub(crate) enum Rows {
     Refused(CheckAnswer),
     Waiting(u64),

@@ -7,7 +7,7 @@ use rules::limits::{HEAD_COUNT, HEAD_D, HEAD_N, HEAD_S, NODES};
 use rules::units::{ByteOffset, Width};
 
 // D as a width, n, S, and the number of nodes.
-#[derive(Drop)]
+#[derive(Clone, Copy)]
 pub struct Header {
     pub width: Width,
     pub elements: u64,

@@ -1,5 +1,6 @@
 // The refusals that every call judges alike, 5 to 9, each over all lines at once: what is found is the first place at fault. The
 // calls put them in their order.
+#![tactic(auto)]
 use rules::limits::{V, WINDOW_MOST, WORK};
 
 mod addresses;
@@ -17,7 +18,7 @@ pub use rows::bare;
 const TABLE: u64 = 1;
 
 // The first place at fault, if there is one: a line, or for a window which of the two it is.
-#[derive(Drop)]
+#[derive(Clone, Copy)]
 pub enum Found {
     Nothing,
     At(u64),

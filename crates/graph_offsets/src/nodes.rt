@@ -14,7 +14,7 @@ use rules::nodes::{Node, NodeRecord, Offset, ShiftBy};
 use rules::units::ByteOffset;
 
 // The offset of a node whose rule is kept, or the line of a rule that is broken.
-#[derive(Drop)]
+#[derive(Clone, Copy)]
 pub(crate) enum Judged {
     Has(Offset),
     Broken(u64),

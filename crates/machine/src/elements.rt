@@ -5,7 +5,7 @@ ghost use Rattle.machine.specs.Spreading.{Spreads};
 use rules::units::Width;
 
 // An element's width, and what its splats go by: its largest value, and the number of eight bytes that has 1 in every element.
-#[derive(Drop)]
+#[derive(Clone, Copy)]
 pub(crate) struct Element {
     pub width: Width,
     pub largest: u64,

@@ -18,7 +18,7 @@ use rules::program::{Instruction, ProgramHead};
 use rules::units::{VectorNumber, Width};
 
 // What a run goes by: the width of its elements, its budget, and the steps done so far.
-#[derive(Drop)]
+#[derive(Clone, Copy)]
 pub(crate) struct Run {
     pub width: Width,
     pub budget: u64,

@@ -1,6 +1,7 @@
 // The six operations on two elements (document 01, "Operations on unsigned elements modulo 2^(8D)"), at each width: what the lanes
 // of a vector and the plain loop both do. Sums and differences wrap at the element's width, so nothing carries into the next
 // element. Every function answers for every argument.
+#![tactic(auto)]
 ghost use Rattle.std.specs.Prelude.{◌≡◌, ◌%◌, min};
 ghost use Rattle.rules.specs.Units.{width_bytes};
 ghost use Rattle.rules.specs.Elements.{modulus, operate, signed_less};

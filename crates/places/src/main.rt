@@ -1,4 +1,5 @@
 // Prints what the four placing rules make of the loop sheet on standard input: `printing::places` of its first bytes, no more.
+#![tactic(auto)]
 use libc::{STDIN_FILENO, STDOUT_FILENO};
 use rules::limits::TEXT_MOST;
 

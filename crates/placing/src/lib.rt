@@ -1,4 +1,5 @@
 // Placing (document 01, "Placing"): shifts put into a bare sheet by one of four rules, and the placed graph handed back.
+#![tactic(auto)]
 mod placed;
 mod records;
 mod rows;

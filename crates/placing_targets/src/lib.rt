@@ -1,5 +1,6 @@
 // What a placing rule moves, and where: 0 ZERO, 1 EAGER, 2 LAZY, 3 DOMINANT. Every table is answered for, also one that does not
 // pass as a graph: DOMINANT goes by its rows.
+#![tactic(auto)]
 mod dominant;
 
 ghost use Rattle.std.specs.Prelude.{◌≡◌};
@@ -16,7 +17,7 @@ use rules::nodes::Offset;
 use rules::units::ByteOffset;
 
 // Where each load goes, undefined where it stays, and where the inputs of an op that disagree meet.
-#[derive(Drop)]
+#[derive(Clone, Copy)]
 pub struct Moves {
     pub loads: Offset,
     pub meeting: ByteOffset,

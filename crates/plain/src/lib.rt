@@ -1,4 +1,5 @@
 // The plain loop (document 01, "Plain loop"): what a loop sheet means, done element by element.
+#![tactic(auto)]
 mod looping;
 mod values;
 mod windows;

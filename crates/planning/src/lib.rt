@@ -1,5 +1,6 @@
 // The one-step call: a bare sheet is placed by a rule and translated at once. It is judged first, 5 to 9 on the bare sheet and its
 // lines; then it is placed into tables of the call's own, and those are translated.
+#![tactic(auto)]
 ghost use Rattle.std.specs.Prelude.{◌≡◌};
 ghost use Rattle.rules.specs.Limits.{vector_bytes};
 ghost use Rattle.rules.specs.Calls.{planning};
@@ -10,7 +11,7 @@ use rules::limits::{HEAD_ENTRIES, NODE_ENTRIES};
 use rules::program::ProgramHead;
 
 // The answer, and the program's head: zero where there is no program.
-#[derive(Drop)]
+#[derive(Clone, Copy)]
 pub struct Planned {
     pub answer: PlanAnswer,
     pub head: ProgramHead,

@@ -8,13 +8,13 @@ use rules::limits::LINE_FEED;
 const DASH: u8 = 45;
 
 // Where a case's text starts, and the place past it.
-#[derive(Drop)]
+#[derive(Clone, Copy)]
 pub struct Case {
     pub start: usize,
     pub past: usize,
 }
 
-#[derive(Drop)]
+#[derive(Clone, Copy)]
 pub enum Cases {
     Next(Case),
     Over,

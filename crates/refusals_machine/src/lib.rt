@@ -1,4 +1,5 @@
 // What is found before the first step of a run: ROOM, then WINDOW, work first, then a FAULT at the start.
+#![tactic(auto)]
 ghost use Rattle.std.specs.Prelude.{◌≡◌, ◌||◌, length};
 ghost use Rattle.rules.specs.Limits.{vector_bytes};
 ghost use Rattle.rules.specs.Checks.{section_long, window_ok, start_fault};
@@ -20,7 +21,7 @@ const V: usize = 16;
 const FULL_MOST: u64 = 2048;
 
 // A run can go, on elements of a width, or is refused.
-#[derive(Drop)]
+#[derive(Clone, Copy)]
 pub enum Start {
     Go(Width),
     Refused(RunAnswer),

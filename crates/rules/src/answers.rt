@@ -2,7 +2,7 @@
 // is; in RunAnswer it is the steps done. specs/Answers.antt gives each case the paper's number and place.
 
 // Reading a sheet.
-#[derive(Drop)]
+#[derive(Clone, Copy)]
 pub enum ReadAnswer {
     Done,
     Room,
@@ -12,7 +12,7 @@ pub enum ReadAnswer {
 }
 
 // Checking a sheet or a graph that is handed over as tables.
-#[derive(Drop)]
+#[derive(Clone, Copy)]
 pub enum CheckAnswer {
     Done,
     Room,
@@ -21,7 +21,7 @@ pub enum CheckAnswer {
 }
 
 // The offset check.
-#[derive(Drop)]
+#[derive(Clone, Copy)]
 pub enum OffsetAnswer {
     Done,
     Room,
@@ -31,7 +31,7 @@ pub enum OffsetAnswer {
 }
 
 // Placing.
-#[derive(Drop)]
+#[derive(Clone, Copy)]
 pub enum PlaceAnswer {
     Done,
     Room,
@@ -42,7 +42,7 @@ pub enum PlaceAnswer {
 }
 
 // The plain loop.
-#[derive(Drop)]
+#[derive(Clone, Copy)]
 pub enum PlainAnswer {
     Done,
     Room,
@@ -54,7 +54,7 @@ pub enum PlainAnswer {
 }
 
 // Translating.
-#[derive(Drop)]
+#[derive(Clone, Copy)]
 pub enum TranslateAnswer {
     Done,
     Room,
@@ -69,7 +69,7 @@ pub enum TranslateAnswer {
 }
 
 // The one-step call, which places and translates.
-#[derive(Drop)]
+#[derive(Clone, Copy)]
 pub enum PlanAnswer {
     Done,
     Room,
@@ -85,7 +85,7 @@ pub enum PlanAnswer {
 }
 
 // Running.
-#[derive(Drop)]
+#[derive(Clone, Copy)]
 pub enum RunAnswer {
     Done(u64),
     Room,

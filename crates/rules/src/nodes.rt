@@ -2,21 +2,21 @@
 use crate::units::ByteOffset;
 
 // What a load reads: the window, 0 for work and 1 for table, and the address of element 0.
-#[derive(Drop)]
+#[derive(Clone, Copy)]
 pub struct LoadAt {
     pub window: u64,
     pub address: ByteOffset,
 }
 
 // The offsets between which a shift moves its child.
-#[derive(Drop)]
+#[derive(Clone, Copy)]
 pub struct ShiftBy {
     pub from: ByteOffset,
     pub to: ByteOffset,
 }
 
 // A load, a splat of a value, an op by its operation, a shift.
-#[derive(Drop)]
+#[derive(Clone, Copy)]
 pub enum Node {
     Load(LoadAt),
     Splat(u64),
@@ -25,14 +25,14 @@ pub enum Node {
 }
 
 // A node's offset: a number of bytes, or undefined, which agrees with everything.
-#[derive(Drop)]
+#[derive(Clone, Copy)]
 pub enum Offset {
     At(ByteOffset),
     Undefined,
 }
 
 // A node and its offset.
-#[derive(Drop)]
+#[derive(Clone, Copy)]
 pub struct NodeRecord {
     pub node: Node,
     pub offset: Offset,

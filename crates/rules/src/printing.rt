@@ -1,7 +1,7 @@
 // What the printing programs say of one plan.
 
 // The answer's number and its place, and of the plan's tree the shifts, G and the steps of its program: zero on a refusal.
-#[derive(Drop)]
+#[derive(Clone, Copy)]
 pub struct Figures {
     pub answer: u64,
     pub place: u64,

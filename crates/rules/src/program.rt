@@ -1,7 +1,7 @@
 // A vector program: its head goes by value, its three sections are lent tables of numbers.
 
 // D, the number F of whole vectors, and how many instructions each section has.
-#[derive(Drop)]
+#[derive(Clone, Copy)]
 pub struct ProgramHead {
     pub d: u64,
     pub f: u64,
@@ -11,7 +11,7 @@ pub struct ProgramHead {
 }
 
 // A row of a section. What a kind does not use is ignored.
-#[derive(Drop)]
+#[derive(Clone, Copy)]
 pub struct Instruction {
     pub kind: u32,
     pub destination: u32,

@@ -2,7 +2,7 @@
 use crate::answers::ReadAnswer;
 
 // How many digits a kind's fields have, in the order of the line: 0 for a field that the kind has not.
-#[derive(Drop)]
+#[derive(Clone, Copy)]
 pub struct FieldDigits {
     pub x: u64,
     pub y: u64,
@@ -11,7 +11,7 @@ pub struct FieldDigits {
 
 // A frame: its kind, its fields in the order of the line, 0 for a field that the kind has not, and the place past its
 // line feed.
-#[derive(Drop)]
+#[derive(Clone, Copy)]
 pub struct Fields {
     pub kind: u64,
     pub x: u64,
@@ -21,14 +21,14 @@ pub struct Fields {
 }
 
 // What stands at a place of the text: a line of the format, or none.
-#[derive(Drop)]
+#[derive(Clone, Copy)]
 pub enum Frame {
     Bad,
     Is(Fields),
 }
 
 // A row of the node table: a node frame's kind and fields.
-#[derive(Drop)]
+#[derive(Clone, Copy)]
 pub struct Row {
     pub kind: u64,
     pub x: u64,
@@ -36,7 +36,7 @@ pub struct Row {
 }
 
 // Where reading stands: the place in the text, the line's number, the node frames read, and how many of them wait.
-#[derive(Drop)]
+#[derive(Clone, Copy)]
 pub struct Cursor {
     pub at: u64,
     pub line: u64,
@@ -45,7 +45,7 @@ pub struct Cursor {
 }
 
 // What a line does: it refuses, it ends the sheet, or it is a node, after which reading stands elsewhere.
-#[derive(Drop)]
+#[derive(Clone, Copy)]
 pub enum LineStep {
     Stop(ReadAnswer),
     End,

@@ -12,7 +12,7 @@ use rules::sheet::{Cursor, LineStep};
 use rules::units::Width;
 
 // How the lines come out: so many nodes, or a refusal.
-#[derive(Drop)]
+#[derive(Clone, Copy)]
 pub(crate) enum Ending {
     Nodes(u64),
     Refused(ReadAnswer),

@@ -14,7 +14,7 @@ const NO_DIGIT: u64 = 16;
 const TEN: u64 = 10;
 
 // What some bytes of the text spell, if all of them are digits.
-#[derive(Drop)]
+#[derive(Clone, Copy)]
 pub(crate) enum Spelling {
     Number(u64),
     Broken,

@@ -1,6 +1,7 @@
 // The frame that stands at a place of the text: its kind byte, its fields and its line feed. Each kind has a function of its own,
 // which knows where its fields stand: one look at the length and one at each digit are enough. Every text and every place of 32
 // bits is answered for: past the end of the text there is no frame.
+#![tactic(auto)]
 mod digits;
 
 ghost use Rattle.std.specs.Prelude.{◌≡◌, false, ◌<◌, get_or, eqb};

@@ -72,6 +72,6 @@ module _ (met : List ℕ) where
 pub dominant_oftenest : (W S : ℕ) (t : Tree) → Oftenest (S % W ∷ load_offsets W t) (dominant W S t)
 unfolding dominant
 dominant_oftenest W S t = record {
-  one = oftenest_one _ (S % W ∷ load_offsets W t) (S % W) (load_offsets W t) (Memᴰ.head refl) (λ y m. Memᴰ.tail m);
+  one = oftenest_one (S % W ∷ load_offsets W t) (S % W ∷ load_offsets W t) (S % W) (load_offsets W t) (Memᴰ.head refl) (λ y m. Memᴰ.tail m);
   beats = oftenest_beats (S % W ∷ load_offsets W t) (S % W) (load_offsets W t);
 }

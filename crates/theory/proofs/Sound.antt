@@ -1,7 +1,7 @@
 -- Runs of sound instructions. Whether an instruction is a fault depends on its fields, D, the pass and the length of work, and a
 -- sound one keeps that length and the registers' widths: so a trace of sound instructions never faults, is done in as many
 -- steps as it has instructions, and is OUT exactly when the budget is less.
-use mathlib.Core.Path.{◌≡◌, refl, sym, ◌∙◌}
+use mathlib.Core.Path.{◌≡◌, refl, sym, ap, ◌∙◌}
 use mathlib.Core.Bool.{Bool, true, ◌&&◌}
 use mathlib.Core.List.{List, [], ◌∷◌}
 use Prim.Native.Nat.{ℕ, zero, suc, ◌+◌, ◌-◌, ◌*◌, ◌/◌, ◌≤◌, ◌<◌}
@@ -121,7 +121,7 @@ module _ (W D len : ℕ) (table : List ℕ) (l : W / D * D ≡ W) where
   pub made_whole : (s : State) (ts : List Timed) → Whole W len s → Every (Sound W D len) ts → Whole W len (made W D table s ts)
   unfolding made
   made_whole s [] h none = h
-  made_whole s (t ∷ ts) h (more v vs) = made_whole _ ts (effect_whole W D len table l t.pass s t.instruction h v) vs
+  made_whole s (t ∷ ts) h (more v vs) = made_whole (effect W D table t.pass s t.instruction) ts (effect_whole W D len table l t.pass s t.instruction h v) vs
 
   -- with a budget for all of them the run is done after as many steps as there are instructions
   pub sound_done : (budget k : ℕ) (s : State) (ts : List Timed) → Whole W len s → Every (Sound W D len) ts → k + length ts ≤ budget
@@ -134,12 +134,17 @@ module _ (W D len : ℕ) (table : List ℕ) (l : W / D * D ≡ W) where
       (sound_done budget (suc k) _ ts (effect_whole W D len table l t.pass s t.instruction h v) vs (omega arith))
 
   -- and else it is OUT at the budget, having done the first of them
+  out_at : (budget first k : ℕ) (s : State) (ts : List Timed) → budget ≡ k + first → Whole W len s → Every (Sound W D len) ts
+      → first < length ts → runs W D table budget (standing DONE k s) ts ≡ standing OUT budget (made W D table s (take first ts))
+  unfolding made runs step
+  out_at budget first k s [] e h none b = absurd (omega arith)
+  out_at budget zero k s (t ∷ ts) e h (more v vs) b =
+      let used : budget ≡ k = omega arith in
+      rw (le-ltb k budget (omega arith)) (runs_stopped W D table budget 11 k s ts ∙ ap (λ x. standing OUT x s) (sym used))
+  out_at budget (suc first) k s (t ∷ ts) e h (more v vs) b =
+      rw (lt-ltb k budget (omega arith), h.work, v)
+      (out_at budget first (suc k) _ ts (omega arith) (effect_whole W D len table l t.pass s t.instruction h v) vs (omega arith))
+
   pub sound_out : (first k : ℕ) (s : State) (ts : List Timed) → Whole W len s → Every (Sound W D len) ts → first < length ts
       → runs W D table (k + first) (standing DONE k s) ts ≡ standing OUT (k + first) (made W D table s (take first ts))
-  unfolding made runs step
-  sound_out first k s [] h none b = absurd (omega arith)
-  sound_out zero k s (t ∷ ts) h (more v vs) b = rw (add-zero, le-ltb k k (omega arith)) (runs_stopped W D table k 11 k s ts)
-  sound_out (suc first) k s (t ∷ ts) h (more v vs) b =
-      let i : k + suc first ≡ suc k + first = omega arith in
-      rw (i, lt-ltb k (suc k + first) (omega arith), h.work, v)
-      (sound_out first (suc k) _ ts (effect_whole W D len table l t.pass s t.instruction h v) vs (omega arith))
+  sound_out first k s ts h v b = out_at (k + first) first k s ts refl h v b

@@ -9,7 +9,7 @@ use rules::limits::V;
 use rules::units::{ByteOffset, ElementNumber, VectorNumber, Width};
 
 // F and e: how many whole vectors end in the stream, and the elements after the last of them.
-#[derive(Drop)]
+#[derive(Clone, Copy)]
 pub(crate) struct Split {
     pub full: VectorNumber,
     pub rest: ElementNumber,

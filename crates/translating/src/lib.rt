@@ -1,4 +1,5 @@
 // Translating (document 01, "Vector code"): a graph handed over as tables becomes a program in three lent sections, or is refused.
+#![tactic(auto)]
 mod counts;
 mod expressions;
 mod programs;
@@ -13,7 +14,7 @@ use rules::answers::TranslateAnswer;
 use rules::program::ProgramHead;
 
 // What translating gives: its answer, and the head of the program, zero on a refusal.
-#[derive(Drop)]
+#[derive(Clone, Copy)]
 pub struct Translated {
     pub answer: TranslateAnswer,
     pub head: ProgramHead,

@@ -1,5 +1,6 @@
 // The blocks of the two windows (document 01, "Vector code"): the load rule and the store rule. A load reads the part of a window
 // that it names, or zeros where there is none; a store writes the part, or says that work has none. Both answer for every pass.
+#![tactic(auto)]
 ghost use Rattle.std.specs.Prelude.{◌≡◌, ◌+◌, ◌≤◌, ◌<◌, min, length, take, drop};
 ghost use Rattle.rules.specs.Limits.{vector_bytes};
 ghost use Rattle.rules.specs.PlainLoop.{window};
@@ -17,7 +18,7 @@ const VECTOR_BYTES: usize = 16;
 const FAR: u64 = BLOCK_ZERO + 576460752303423488;
 
 // Where a block lies in a window.
-#[derive(Drop)]
+#[derive(Clone, Copy)]
 enum Place {
     Inside(ByteOffset),
     Outside,

@@ -1,0 +1,45 @@
+-- `operate_four`: each branch by its law, at D = 4.
+use Rattle.std.proofs.Common.{arith, rules}
+use Rattle.rules.specs.Elements.{modulus}
+use Rattle.operations.proofs.OperationLaws.{added, subtracted, minimum_right, minimum_left, maximum_right, maximum_left, signed_minimum, signed_maximum}
+use Rattle.operations.proofs.operate_four.Goals as goal
+
+pub returns-then-operation-eq-ADD : goal.returns-then-operation-eq-ADD
+unfolding modulus
+returns-then-operation-eq-ADD c = added 4 _ _ c.if-operation-eq-ADD.true c.wrapping_add_u32.ensures
+
+pub returns-then-operation-eq-SUBTRACT : goal.returns-then-operation-eq-SUBTRACT
+unfolding modulus
+returns-then-operation-eq-SUBTRACT c = subtracted 4 _ _ c.if-operation-eq-SUBTRACT.true (search rules) (search rules) c.wrapping_sub_u32.ensures
+
+pub returns-then-y-x : goal.returns-then-y-x
+returns-then-y-x c = minimum_right 4 _ _ c.if-operation-eq-MINIMUM.true c.if-y-x.true
+
+pub returns-else-y-x : goal.returns-else-y-x
+returns-else-y-x c = minimum_left 4 _ _ c.if-operation-eq-MINIMUM.true c.if-y-x.false
+
+pub returns-then-x-y : goal.returns-then-x-y
+returns-then-x-y c = maximum_right 4 _ _ c.if-operation-eq-MAXIMUM.true c.if-x-y.true
+
+pub returns-else-x-y : goal.returns-else-x-y
+returns-else-x-y c = maximum_left 4 _ _ c.if-operation-eq-MAXIMUM.true c.if-x-y.false
+
+pub returns-then-signed_less_four : goal.returns-then-signed_less_four
+returns-then-signed_less_four c =
+    let a = c.args in
+    rw c.if-signed_less_four.true at (signed_minimum 4 a.x a.y c.signed_less_four.result c.if-operation-eq-SIGNED_MINIMUM.true c.signed_less_four.ensures)
+
+pub returns-else-signed_less_four : goal.returns-else-signed_less_four
+returns-else-signed_less_four c =
+    let a = c.args in
+    rw c.if-signed_less_four.false at (signed_minimum 4 a.x a.y c.signed_less_four.result c.if-operation-eq-SIGNED_MINIMUM.true c.signed_less_four.ensures)
+
+pub returns-then-signed_less_four-2 : goal.returns-then-signed_less_four-2
+returns-then-signed_less_four-2 c =
+    let a = c.args in
+    rw c.if-signed_less_four-2.true at (signed_maximum 4 a.operation a.x a.y c.signed_less_four-2.result (omega arith) c.signed_less_four-2.ensures)
+
+pub returns-else-signed_less_four-2 : goal.returns-else-signed_less_four-2
+returns-else-signed_less_four-2 c =
+    let a = c.args in
+    rw c.if-signed_less_four-2.false at (signed_maximum 4 a.operation a.x a.y c.signed_less_four-2.result (omega arith) c.signed_less_four-2.ensures)

@@ -1,0 +1,17 @@
+-- n, S and D in turn.
+use borrow.Author.Tests.{le-leb, lt-leb}
+use Rattle.rules.specs.Ranges.{head_ok}
+use borrow.Author.Rules.{rules}
+use Rattle.ranges.proofs.head_ok.Goals as goal
+
+pub returns-then-n-gt-ELEMENTS_MOST : goal.returns-then-n-gt-ELEMENTS_MOST
+unfolding head_ok
+returns-then-n-gt-ELEMENTS_MOST c = rw (lt-leb _ 4096 c.if-n-gt-ELEMENTS_MOST.taken)
+
+pub returns-then-s-gt-ADDRESS_MOST : goal.returns-then-s-gt-ADDRESS_MOST
+unfolding head_ok
+returns-then-s-gt-ADDRESS_MOST c = rw (le-leb _ 4096 c.if-n-gt-ELEMENTS_MOST.left, lt-leb _ 65535 c.if-s-gt-ADDRESS_MOST.taken)
+
+pub returns : goal.returns
+unfolding head_ok
+returns c = rw (le-leb _ 4096 c.if-n-gt-ELEMENTS_MOST.left, le-leb _ 65535 c.if-s-gt-ADDRESS_MOST.left) c.is_width.ensures

@@ -1,0 +1,47 @@
+-- Bounds, that the two differ, and multiples, in turn.
+use borrow.Author.Tests.{lt-ltb, le-ltb, not-true, not-false}
+use Rattle.rules.specs.Ranges.{shift_ok}
+use borrow.Author.Rules.{rules}
+use Rattle.ranges.proofs.shift_ok.Goals as goal
+
+pub returns-then-from-ge-V : goal.returns-then-from-ge-V
+unfolding shift_ok
+returns-then-from-ge-V c = rw (le-ltb _ 16 c.if-from-ge-V.taken)
+
+pub returns-then-to-ge-V : goal.returns-then-to-ge-V
+unfolding shift_ok
+returns-then-to-ge-V c = rw (lt-ltb _ 16 c.if-from-ge-V.left, le-ltb _ 16 c.if-to-ge-V.taken)
+
+pub returns-then-not-is_multiple : goal.returns-then-not-is_multiple
+unfolding shift_ok
+returns-then-not-is_multiple c =
+    rw (
+      lt-ltb _ 16 c.if-from-ge-V.left,
+      lt-ltb _ 16 c.if-to-ge-V.left,
+      ← c.is_multiple.ensures,
+      not-true c.is_multiple.result c.if-not-is_multiple.taken,
+    )
+
+pub returns-then-not-is_multiple-2 : goal.returns-then-not-is_multiple-2
+unfolding shift_ok
+returns-then-not-is_multiple-2 c =
+    rw (
+      lt-ltb _ 16 c.if-from-ge-V.left,
+      lt-ltb _ 16 c.if-to-ge-V.left,
+      ← c.is_multiple.ensures,
+      not-false c.is_multiple.result c.if-not-is_multiple.left,
+      ← c.is_multiple-2.ensures,
+      not-true c.is_multiple-2.result c.if-not-is_multiple-2.taken,
+    )
+
+pub returns : goal.returns
+unfolding shift_ok
+returns c =
+    rw (
+      lt-ltb _ 16 c.if-from-ge-V.left,
+      lt-ltb _ 16 c.if-to-ge-V.left,
+      ← c.is_multiple.ensures,
+      not-false c.is_multiple.result c.if-not-is_multiple.left,
+      ← c.is_multiple-2.ensures,
+      not-false c.is_multiple-2.result c.if-not-is_multiple-2.left,
+    )

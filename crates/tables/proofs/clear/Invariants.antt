@@ -1,0 +1,16 @@
+-- The invariant: the first i entries are zero, and the others as they were.
+use Prim.Native.Nat.{◌≤◌, ◌-◌}
+use mathlib.Core.Path.{◌≡◌, refl, ◌∙◌}
+use mathlib.Core.List.{◌++◌, append-nil}
+use lib.ListN.{length, replicate, drop, length-set}
+use lib.Seq.{drop-length}
+use borrow.Author.Fill.{fill_more}
+use native.Mathlib.Omega.{arith}
+use Rattle.tables.proofs.TableLaws.{padded_none}
+use Rattle.tables.proofs.clear.Given as goal
+
+abbrev pub invariant-loop-i : goal.invariant-loop-i
+invariant-loop-i l = (l.i ≤ length l.initial.table) × (l.table ≡ replicate l.i 0 ++ drop l.i l.initial.table) × (length l.table ≡ length l.initial.table)
+
+abbrev pub decreases-loop-i : goal.decreases-loop-i
+decreases-loop-i l = length l.initial.table - l.i
