@@ -12,4 +12,4 @@ unfolding takes
 returns-in-4 c = rw c.in-4.is
 
 pub returns-in_default : goal.returns-in_default
-returns-in_default c = takes_none _ c.in_default.in_default-own.rest.0.1 c.in_default.rest.1
+returns-in_default c = takes_none _ c.in_default.in_default-own.rest.0.1 c.in_default.in_default-own.rest.1
