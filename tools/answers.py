@@ -162,7 +162,12 @@ def main(argv):
             print(f"left: {f}: no {key}")
             continue
         n = Names(names[key])
-        head, items = defs(open(f, encoding="utf-8").read())
+        text = open(f, encoding="utf-8").read()
+        text = re.sub(r"(\.if\d*)\.taken\b", r"\1.true", text)
+        text = re.sub(r"(\.if\d*)\.left\b", r"\1.false", text)
+        # a condition `!x` is now told of x itself
+        text = re.sub(r"not-(?:true|false) " + ID + r"(?:\." + ID + r")* (" + ID + r"(?:\." + ID + r")*\.(?:true|false))(?![\w.-])", r"\1", text)
+        head, items = defs(text)
         said = []
         imports = [h for h in head if h.startswith("use ") and not re.search(r"\.(Statement\.\{|Tie|Reads|Kinds|Lts)\b", h)]
         comment = [h for h in head if h.startswith("--")][:1]
