@@ -6,8 +6,7 @@ use native.Mathlib.Omega.{arith}
 use borrow.Author.Rules.{rules}
 use lib.ListN.{get_or}
 use Rattle.graph.specs.Links.{listed}
-use Rattle.graph.proofs.links.last_but_one.Statement.{statement}
-use Rattle.graph.proofs.links.last_but_one.Tie as tie
+use Rattle.graph.proofs.links.last_but_one.Goals as goal
 
 few : (stack : List ℕ) (height : ℕ) → height < 2 → 0 ≡ get_or (listed stack height) 1 0
 few stack zero h = refl
@@ -19,14 +18,8 @@ enough stack zero h = absurd (omega arith)
 enough stack (suc zero) h = absurd (omega arith)
 enough stack (suc (suc height)) h = ap (λ (i : ℕ). get_or stack i 0) (omega arith)
 
-returns : tie.Need-returns
-returns c = few _ c.before.args.height c.if1.true
+pub returns-then-height-lt2 : goal.returns-then-height-lt2
+returns-then-height-lt2 c = few _ c.args.height c.if-height-lt2.true
 
-element-copy-out-result : tie.Need-element-copy-out-result
-element-copy-out-result c = search rules
-
-returns-2 : tie.Need-returns-2
-returns-2 c = enough c.before.before.args.stack.now c.before.before.args.height c.before.if1.false
-
-pub last-but-one-spec : {M : Type 1} → statement M
-last-but-one-spec = tie.close (tie.spec returns element-copy-out-result returns-2)
+pub returns : goal.returns
+returns c = enough c.args.stack.now c.args.height c.if-height-lt2.false

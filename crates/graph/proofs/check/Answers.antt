@@ -11,29 +11,22 @@ use Rattle.theory.proofs.Firsts.{form_alone}
 use Rattle.rules.specs.Calls.{checking}
 use Rattle.rules.specs.Checks.{form_check}
 use borrow.Author.Rules.{rules}
-use Rattle.graph.proofs.check.Statement.{statement}
-use Rattle.graph.proofs.check.Tie as tie
+use Rattle.graph.proofs.check.Goals as goal
 
 roomy : (head nodes : List ℕ) → 10 ≤ length head → 192 ≤ length nodes
     → checking vector_bytes head nodes ≡ form_check vector_bytes (graph_of head nodes)
 unfolding checking first
 roomy head nodes h n = rw (le-ltb (length head) 10 h, le-ltb (length nodes) 192 n) (form_alone vector_bytes (graph_of head nodes))
 
-returns : tie.Need-returns
+pub returns-then-head-lt-HEAD_ENTRIES : goal.returns-then-head-lt-HEAD_ENTRIES
 unfolding checking first
-returns c = rw (lt-ltb _ 10 c.if1.true)
+returns-then-head-lt-HEAD_ENTRIES c = rw (lt-ltb _ 10 c.if-head-lt-HEAD_ENTRIES.true)
 
-returns-2 : tie.Need-returns-2
+pub returns-then-nodes-lt-NODE_ENTRIES : goal.returns-then-nodes-lt-NODE_ENTRIES
 unfolding checking first
-returns-2 c = rw (le-ltb _ 10 c.before.if1.false, lt-ltb _ 192 c.if2.true)
+returns-then-nodes-lt-NODE_ENTRIES c = rw (le-ltb _ 10 c.if-head-lt-HEAD_ENTRIES.false, lt-ltb _ 192 c.if-nodes-lt-NODE_ENTRIES.true)
 
-form-requires : tie.Need-form-requires
-form-requires c κs = search rules
-
-returns-3 : tie.Need-returns-3
-returns-3 c =
-    let a = c.before.before.before.before.before.args in
-    c.form.ensures ∙ sym (roomy a.head.now a.nodes.now c.before.before.if1.false c.before.if2.false)
-
-pub check-spec : {M : Type 1} → statement M
-check-spec = tie.close (tie.spec returns returns-2 form-requires returns-3)
+pub returns : goal.returns
+returns c =
+    let a = c.args in
+    c.form.ensures ∙ sym (roomy a.head.now a.nodes.now c.if-head-lt-HEAD_ENTRIES.false c.if-nodes-lt-NODE_ENTRIES.false)
