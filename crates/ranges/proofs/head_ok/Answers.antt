@@ -6,12 +6,12 @@ use Rattle.ranges.proofs.head_ok.Goals as goal
 
 pub returns-then-n-gt-ELEMENTS_MOST : goal.returns-then-n-gt-ELEMENTS_MOST
 unfolding head_ok
-returns-then-n-gt-ELEMENTS_MOST c = rw (lt-leb _ 4096 c.if-n-gt-ELEMENTS_MOST.taken)
+returns-then-n-gt-ELEMENTS_MOST c = rw (lt-leb _ 4096 c.if-n-gt-ELEMENTS_MOST.true)
 
 pub returns-then-s-gt-ADDRESS_MOST : goal.returns-then-s-gt-ADDRESS_MOST
 unfolding head_ok
-returns-then-s-gt-ADDRESS_MOST c = rw (le-leb _ 4096 c.if-n-gt-ELEMENTS_MOST.left, lt-leb _ 65535 c.if-s-gt-ADDRESS_MOST.taken)
+returns-then-s-gt-ADDRESS_MOST c = rw (le-leb _ 4096 c.if-n-gt-ELEMENTS_MOST.false, lt-leb _ 65535 c.if-s-gt-ADDRESS_MOST.true)
 
 pub returns : goal.returns
 unfolding head_ok
-returns c = rw (le-leb _ 4096 c.if-n-gt-ELEMENTS_MOST.left, le-leb _ 65535 c.if-s-gt-ADDRESS_MOST.left) c.is_width.ensures
+returns c = rw (le-leb _ 4096 c.if-n-gt-ELEMENTS_MOST.false, le-leb _ 65535 c.if-s-gt-ADDRESS_MOST.false) c.is_width.ensures
