@@ -15,8 +15,8 @@ import sys
 ID = r"[^\s(){};,.λ\[\]⌜⌝]+"
 
 
-def norm(s):
-    return s.replace("_", "-").lower()
+def norm(s):  # port.py and respell.py may have renamed a step as if it were a lemma
+    return re.sub(r"_lem$", "", s).replace("_", "-").lower()
 
 
 def defs(text):
@@ -96,6 +96,10 @@ def turn_body(n, place, text, said):
         q, rest = env[parts[0]], parts[1:]
         while rest:
             r = n.step(place, q, rest)
+            if r is None:  # today's walk has other steps in between: a step's name tells where it is
+                r = next((s for p in n.ancestors(place) if rest[0] != "before" for s in [n.step(place, p, rest)] if s), None)
+            if r is None and rest[0] == "before":
+                return ("place", q)
             if r is None:
                 said.append(f"{m_text}: no `{rest[0]}` at {q}")
                 return None
@@ -230,13 +234,21 @@ def main(argv):
             rhs = turn_body(n, place, rhs, said)
             answers.append("\n".join([f"pub {new} : goal.{new}"] + unf + [f"{new} {mm.group(1)} =" + rhs]))
         path = f"Rattle.{crate}.proofs.{mod}"
+        # a word of the file's own that an invariant cites stands with it
+        words = []
+        for a in list(answers):
+            w = re.match(r"(?:abbrev |unfoldable )?(" + ID + r") :", a)
+            if w and not a.startswith("pub ") and any(re.search(r"(?<![\w.'-])" + re.escape(w.group(1)) + r"(?![\w'-])", i) for i in inv):
+                answers.remove(a)
+                words.append(w.group(1))
+                inv.insert(len(words) - 1, re.sub(r"^(abbrev |unfoldable |)", r"\1pub ", a))
         if inv:
             with open(os.path.join(folder, "Invariants.antt"), "w") as o:
                 o.write("\n".join(comment + imports + [f"use {path}.Given as goal", ""]) + "\n" + "\n\n".join(inv) + "\n")
             comment = []
         if [a for a in answers if a.startswith("pub ")]:
             with open(os.path.join(folder, "Answers.antt"), "w") as o:
-                o.write("\n".join(comment + imports + [f"use {path}.Goals as goal", ""]) + "\n" + "\n\n".join(answers) + "\n")
+                o.write("\n".join(comment + imports + ([f"use {path}.Invariants.{{{', '.join(words)}}}"] if words else []) + [f"use {path}.Goals as goal", ""]) + "\n" + "\n\n".join(answers) + "\n")
         os.remove(f)
         print(f"{folder}: {len(inv)} for loops, {len(answers)} answers")
         for s in said:

@@ -1,0 +1,42 @@
+use Prim.Native.Nat.{◌+◌, ◌-◌, ◌≤◌}
+use mathlib.Core.Path.{◌≡◌, refl, ◌∙◌}
+use native.Mathlib.Omega.{arith}
+use borrow.Author.Rules.{rules}
+use lib.ListN.{length, length-set}
+use Rattle.rules.specs.Limits.{nodes_most}
+use Rattle.rules.specs.Trees.{node_at}
+use Rattle.graph.specs.Links.{left_in}
+use Rattle.graph.proofs.LinkLaws.{linked_lower}
+use Rattle.graph_offsets.proofs.JudgeLaws.{NodesSo, nodes_none, node_broken, node_kept, nodes_kept}
+use Rattle.graph_offsets.proofs.nodes.judge_nodes.Goals as goal
+
+pub loop-k-init : goal.loop-k-init
+loop-k-init c = (omega arith, refl, nodes_none _ _ _)
+
+pub judge_node-found-requires : goal.judge_node-found-requires
+judge_node-found-requires c =
+    let l = c.loop-k in
+    let linked = rw (← c.left_inputs-lefts.ensures) at c.requires.1 in
+    (omega arith, (linked_lower (node_at c.args.nodes.now) (left_in c.left_inputs-lefts.result) c.args.count (l.k + 1) (omega arith) linked, l.invariant.2.known))
+
+pub returns-in-Broken : goal.returns-in-Broken
+returns-in-Broken c =
+    let l = c.loop-k in
+    let found = c.judge_node-found in
+    node_broken c.args.nodes.now l.k l.records l.root l.invariant.2 found.result found.ensures c.in-Broken.line c.args.count
+    c.loop-k-test.true c.in-Broken.is
+
+pub loop-k-preserved : goal.loop-k-preserved
+loop-k-preserved c =
+    let l = c.loop-k in
+    let found = c.judge_node-found in (
+      omega arith,
+      length-set l.records l.k _ ∙ l.invariant.1,
+      node_kept c.args.nodes.now l.k l.records l.root l.invariant.2 found.result found.ensures c.in-Has.offset
+          c.in-Has.is _ refl (omega arith),
+    )
+
+pub returns : goal.returns
+returns c =
+    let l = c.loop-k in
+    nodes_kept c.args.nodes.now c.args.count l.k l.records l.root l.invariant.2 c.requires.0.0 (omega arith)

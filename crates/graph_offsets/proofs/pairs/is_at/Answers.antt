@@ -1,0 +1,6 @@
+-- Each case.
+use borrow.Author.Rules.{rules}
+use Rattle.graph_offsets.proofs.pairs.is_at.Goals as goal
+
+pub returns-in-At : goal.returns-in-At
+returns-in-At c = rw c.in-At.is
