@@ -31,7 +31,7 @@ returns : tie.Need-returns
 returns c =
     let a = c.before.before.before.before.before.before.before.args in
     let form = sym (rw c.before.before.enum_told.given.1 at c.before.before.before.before.check.ensures) in
-    form_passed a.head.now a.nodes.now a.work-len a.table-len form _
+    form_passed a.head.now a.nodes.now a.work_len a.table_len form _
     (rw c.before.header_of.ensures at c.judge-windows.ensures)
 
 returns-2 : tie.Need-returns-2

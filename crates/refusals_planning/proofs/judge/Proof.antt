@@ -16,7 +16,7 @@ returns : tie.Need-returns
 returns c =
     let s = c.before in
     let a = s.before.before.before.before.before.before.args in
-    room_refused a.rule a.head.now a.nodes.now _ (line_checks a.work-len a.table-len)
+    room_refused a.rule a.head.now a.nodes.now _ (line_checks a.work_len a.table_len)
     (sym s.tables-short.ensures ∙ c.if1.true)
 
 returns-2 : tie.Need-returns-2
@@ -25,7 +25,7 @@ returns-2 c =
     let s = i.before in
     let a = s.before.before.before.before.before.before.args in
     let roomy = sym s.tables-short.ensures ∙ i.if1.false in
-    rule_refused a.rule a.head.now a.nodes.now _ (line_checks a.work-len a.table-len) roomy c.if2.true
+    rule_refused a.rule a.head.now a.nodes.now _ (line_checks a.work_len a.table_len) roomy c.if2.true
 
 check-requires : tie.Need-check-requires
 check-requires c κs = search rules
@@ -58,7 +58,7 @@ returns-3 c =
     let roomy = sym s.tables-short.ensures ∙ i.if1.false in
     let tables = tables_roomy (head_short a.head.now || nodes_short a.nodes.now) _ _ _ roomy in
     let passed = rw c.before.before.enum_told.given.1 at k.check.ensures in
-    lines_decide a.rule a.head.now a.nodes.now _ (line_checks a.work-len a.table-len) roomy r.if2.false tables
+    lines_decide a.rule a.head.now a.nodes.now _ (line_checks a.work_len a.table_len) roomy r.if2.false tables
     passed _ (rw c.before.header_of.ensures at c.judge-lines.ensures)
 
 returns-4 : tie.Need-returns-4
@@ -70,7 +70,7 @@ returns-4 c =
     let a = s.before.before.before.before.before.before.args in
     let roomy = sym s.tables-short.ensures ∙ i.if1.false in
     let tables = tables_roomy (head_short a.head.now || nodes_short a.nodes.now) _ _ _ roomy in
-    form_refused a.rule a.head.now a.nodes.now _ (line_checks a.work-len a.table-len) roomy r.if2.false tables
+    form_refused a.rule a.head.now a.nodes.now _ (line_checks a.work_len a.table_len) roomy r.if2.false tables
     _ _ (rw c.enum-told2.given.1 at k.check.ensures)
 
 returns-5 : tie.Need-returns-5
@@ -83,7 +83,7 @@ returns-5 c =
     let roomy = sym s.tables-short.ensures ∙ i.if1.false in
     let tables = tables_roomy (head_short a.head.now || nodes_short a.nodes.now) _ _ _ roomy in
     let f = c.before.form in
-    form_refused a.rule a.head.now a.nodes.now _ (line_checks a.work-len a.table-len) roomy r.if2.false tables
+    form_refused a.rule a.head.now a.nodes.now _ (line_checks a.work_len a.table_len) roomy r.if2.false tables
     _ _ (rw f.given.1 at k.check.ensures)
 
 returns-6 : tie.Need-returns-6
@@ -96,7 +96,7 @@ returns-6 c =
     let roomy = sym s.tables-short.ensures ∙ i.if1.false in
     let tables = tables_roomy (head_short a.head.now || nodes_short a.nodes.now) _ _ _ roomy in
     let f = c.before.form2 in
-    form_refused a.rule a.head.now a.nodes.now _ (line_checks a.work-len a.table-len) roomy r.if2.false tables
+    form_refused a.rule a.head.now a.nodes.now _ (line_checks a.work_len a.table_len) roomy r.if2.false tables
     _ _ (rw f.given.1 at k.check.ensures)
 
 pub judge-spec : {M : Type 1} → statement M
