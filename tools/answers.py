@@ -94,6 +94,8 @@ def turn_body(n, place, text, said):
     def resolve(m_text):
         parts = m_text.split(".")
         q, rest = env[parts[0]], parts[1:]
+        if isinstance(q, tuple):  # a step that an arm names anew, under a name of the proof's own
+            q, rest = q[0], list(q[1]) + rest
         while rest:
             r = n.step(place, q, rest)
             if r is None:  # today's walk has other steps in between: a step's name tells where it is
@@ -129,6 +131,11 @@ def turn_body(n, place, text, said):
                 if r and r[0] == "place":
                     env[m.group(1)] = r[1]
                     continue
+                last = m.group(2).split(".")[-1]
+                arms = [x for a in n.ancestors(place) for x in [n.d["arms"][n.index[a]]] if x]
+                if any(norm(s[1]) == norm(last) for a in arms for s in a[2]):
+                    env[m.group(1)] = (place, [last])
+                    continue
                 env.pop(m.group(1), None)
                 out += f"let {m.group(1)} = {r[1] if r else m.group(2)} in{m.group(3)}"
             else:
@@ -155,6 +162,11 @@ def turn_body(n, place, text, said):
 def main(argv):
     names = json.load(open(argv[0]))
     crate = os.path.basename(os.getcwd())
+    # names of src/ keep their underscores
+    source = set()
+    for f in glob.glob("src/**/*.rt", recursive=True):
+        source |= set(re.findall(r"\b([a-z]\w*_\w+)\s*:", open(f, encoding="utf-8").read()))
+    dashed = {s.replace("_", "-"): s for s in source}
     for f in sorted(glob.glob("proofs/**/Proof.antt", recursive=True)):
         folder = os.path.dirname(f)
         if "/+" in f:
@@ -167,6 +179,7 @@ def main(argv):
             continue
         n = Names(names[key])
         text = open(f, encoding="utf-8").read()
+        text = re.sub(r"\.([a-z]\w*(?:-\w+)+)(?![\w-])", lambda k: "." + dashed.get(k.group(1), k.group(1)), text)
         text = re.sub(r"(\.if\d*)\.taken\b", r"\1.true", text)
         text = re.sub(r"(\.if\d*)\.left\b", r"\1.false", text)
         # a condition `!x` is now told of x itself

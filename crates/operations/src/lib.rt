@@ -2,6 +2,7 @@
 // of a vector and the plain loop both do. Sums and differences wrap at the element's width, so nothing carries into the next
 // element. Every function answers for every argument.
 #![tactic(auto)]
+
 ghost use Rattle.std.specs.Prelude.{◌≡◌, ◌%◌, min};
 ghost use Rattle.rules.specs.Units.{width_bytes};
 ghost use Rattle.rules.specs.Elements.{modulus, operate, signed_less};

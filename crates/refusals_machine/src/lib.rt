@@ -1,5 +1,6 @@
 // What is found before the first step of a run: ROOM, then WINDOW, work first, then a FAULT at the start.
 #![tactic(auto)]
+
 ghost use Rattle.std.specs.Prelude.{◌≡◌, ◌||◌, length};
 ghost use Rattle.rules.specs.Limits.{vector_bytes};
 ghost use Rattle.rules.specs.Checks.{section_long, window_ok, start_fault};

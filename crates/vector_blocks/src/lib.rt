@@ -1,6 +1,7 @@
 // The blocks of the two windows (document 01, "Vector code"): the load rule and the store rule. A load reads the part of a window
 // that it names, or zeros where there is none; a store writes the part, or says that work has none. Both answer for every pass.
 #![tactic(auto)]
+
 ghost use Rattle.std.specs.Prelude.{◌≡◌, ◌+◌, ◌≤◌, ◌<◌, min, length, take, drop};
 ghost use Rattle.rules.specs.Limits.{vector_bytes};
 ghost use Rattle.rules.specs.PlainLoop.{window};

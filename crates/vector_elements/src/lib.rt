@@ -2,6 +2,7 @@
 // d + e bytes is read from one of d and one of e, so one law proves every width. Vectors that are read are lent: the compiler
 // reads a lent vector in place, and handed over by value it would be copied and taken apart.
 #![tactic(auto)]
+
 ghost use Rattle.std.specs.Prelude.{◌≡◌, ◌*◌, ◌%◌, ◌<◌, get_or};
 ghost use Rattle.rules.specs.Elements.{element, to_bytes};
 ghost use Rattle.rules.specs.Vectors.{lanes};

@@ -6,11 +6,11 @@ use Rattle.operations.proofs.operate_two.Goals as goal
 
 pub returns-then-operation-eq-ADD : goal.returns-then-operation-eq-ADD
 unfolding modulus
-returns-then-operation-eq-ADD c = added 2 _ _ c.if-operation-eq-ADD.true c.wrapping_add_u16.ensures
+returns-then-operation-eq-ADD c = added 2 _ _ c.if-operation-eq-ADD.true c.wrapping_add_u16.ensures.value
 
 pub returns-then-operation-eq-SUBTRACT : goal.returns-then-operation-eq-SUBTRACT
 unfolding modulus
-returns-then-operation-eq-SUBTRACT c = subtracted 2 _ _ c.if-operation-eq-SUBTRACT.true (search rules) (search rules) c.wrapping_sub_u16.ensures
+returns-then-operation-eq-SUBTRACT c = subtracted 2 _ _ c.if-operation-eq-SUBTRACT.true (search rules) (search rules) c.wrapping_sub_u16.ensures.value
 
 pub returns-then-y-x : goal.returns-then-y-x
 returns-then-y-x c = minimum_right 2 _ _ c.if-operation-eq-MINIMUM.true c.if-y-x.true

@@ -6,4 +6,4 @@ use Rattle.operations.proofs.signed_less_eight.Goals as goal
 
 pub returns : goal.returns
 unfolding modulus
-returns c = signed_order 8 9223372036854775808 refl (search rules) (search rules) c.wrapping_add_u64-x_on.ensures c.wrapping_add_u64-y_on.ensures
+returns c = signed_order 8 9223372036854775808 refl (search rules) (search rules) c.wrapping_add_u64-x_on.ensures.value c.wrapping_add_u64-y_on.ensures.value

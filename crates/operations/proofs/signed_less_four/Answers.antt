@@ -6,4 +6,4 @@ use Rattle.operations.proofs.signed_less_four.Goals as goal
 
 pub returns : goal.returns
 unfolding modulus
-returns c = signed_order 4 2147483648 refl (search rules) (search rules) c.wrapping_add_u32-x_on.ensures c.wrapping_add_u32-y_on.ensures
+returns c = signed_order 4 2147483648 refl (search rules) (search rules) c.wrapping_add_u32-x_on.ensures.value c.wrapping_add_u32-y_on.ensures.value

@@ -6,4 +6,4 @@ use Rattle.operations.proofs.signed_less_one.Goals as goal
 
 pub returns : goal.returns
 unfolding modulus
-returns c = signed_order 1 128 refl (search rules) (search rules) c.wrapping_add_u8-x_on.ensures c.wrapping_add_u8-y_on.ensures
+returns c = signed_order 1 128 refl (search rules) (search rules) c.wrapping_add_u8-x_on.ensures.value c.wrapping_add_u8-y_on.ensures.value

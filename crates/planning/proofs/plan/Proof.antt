@@ -25,7 +25,7 @@ returns c =
     let j = c.before.before in
     let s = j.before.before.before.before.before.before.before.before.before in
     let a = s.args in
-    room_leaves a.rule a.head.now a.nodes.now a.work-len a.table-len a.prologue.now a.body.now a.epilogue.now
+    room_leaves a.rule a.head.now a.nodes.now a.work_len a.table_len a.prologue.now a.body.now a.epilogue.now
     (rw c.enum_told.given.1 at j.judge.ensures)
 
 enum-told-2 : tie.Need-enum-told-2
@@ -59,7 +59,7 @@ returns-2 c =
     let s = j.before.before.before.before.before.before.before.before.before in
     let a = s.args in
     rw (x.clear.ensures, y.clear2.ensures, z.clear3.ensures)
-    (refusal_leaves a.rule a.head.now a.nodes.now a.work-len a.table-len a.prologue.now a.body.now a.epilogue.now
+    (refusal_leaves a.rule a.head.now a.nodes.now a.work_len a.table_len a.prologue.now a.body.now a.epilogue.now
     j.judge.result j.judge.ensures m.match2.keys2 m.before.match.keys2)
 
 slice-aggregate-place : tie.Need-slice-aggregate-place
@@ -98,7 +98,7 @@ returns-3 c =
     let s = j.before.before.before.before.before.before.before.before.before in
     let a = s.args in
     let fine = sym (rw d.enum-told2.given.1 at j.judge.ensures) in
-    plan_done a.rule a.head.now a.nodes.now a.work-len a.table-len a.prologue.now a.body.now a.epilogue.now fine
+    plan_done a.rule a.head.now a.nodes.now a.work_len a.table_len a.prologue.now a.body.now a.epilogue.now fine
     p.place.result _ _ p.place.ensures t.translate.result _ _ _ t.translate.ensures
 
 pub plan-spec : {M : Type 1} → statement M

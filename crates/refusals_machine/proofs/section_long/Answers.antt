@@ -2,7 +2,6 @@
 use Prim.Native.Nat.{◌≤◌, ◌<◌}
 use native.Mathlib.Omega.{arith}
 use borrow.Author.Tests.{lt-ltb, le-ltb}
-use borrow.Author.Rules.{rules}
 use Rattle.refusals_machine.proofs.section_long.Goals as goal
 
 pub returns-then-rows-gt-SECTION_MOST : goal.returns-then-rows-gt-SECTION_MOST

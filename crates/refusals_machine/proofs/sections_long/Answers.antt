@@ -1,6 +1,5 @@
 -- `sections_long`: the first section that is too long, if any.
 use mathlib.Core.Path.{sym, ◌∙◌}
-use borrow.Author.Rules.{rules}
 use Rattle.refusals_machine.proofs.sections_long.Goals as goal
 
 pub returns-then-section_long : goal.returns-then-section_long

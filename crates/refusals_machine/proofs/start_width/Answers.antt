@@ -10,7 +10,7 @@ pub returns-then-head-gt-FULL_MOST : goal.returns-then-head-gt-FULL_MOST
 returns-then-head-gt-FULL_MOST c =
     let h = c.args.head in
     let over : 2048 < h.f = omega (arith, c.if-head-gt-FULL_MOST.true) in
-    (full_fault h over, λ e. not_done _ e)
+    record { result_value = full_fault h over; widens = λ e. not_done _ e }
 
 pub returns-in-1 : goal.returns-in-1
 unfolding is_width
@@ -18,7 +18,7 @@ returns-in-1 c =
     let h = c.args.head in
     let e : h.d ≡ 1 = c.in-1.is in
     let within : h.f ≤ 2048 = omega (arith, c.if-head-gt-FULL_MOST.false) in
-    (width_found h (rw e) within, sym e)
+    record { result_value = width_found h (rw e) within; widens = sym e }
 
 pub returns-in-2 : goal.returns-in-2
 unfolding is_width
@@ -26,7 +26,7 @@ returns-in-2 c =
     let h = c.args.head in
     let e : h.d ≡ 2 = c.in-2.is in
     let within : h.f ≤ 2048 = omega (arith, c.if-head-gt-FULL_MOST.false) in
-    (width_found h (rw e) within, sym e)
+    record { result_value = width_found h (rw e) within; widens = sym e }
 
 pub returns-in-4 : goal.returns-in-4
 unfolding is_width
@@ -34,7 +34,7 @@ returns-in-4 c =
     let h = c.args.head in
     let e : h.d ≡ 4 = c.in-4.is in
     let within : h.f ≤ 2048 = omega (arith, c.if-head-gt-FULL_MOST.false) in
-    (width_found h (rw e) within, sym e)
+    record { result_value = width_found h (rw e) within; widens = sym e }
 
 pub returns-in-8 : goal.returns-in-8
 unfolding is_width
@@ -42,9 +42,9 @@ returns-in-8 c =
     let h = c.args.head in
     let e : h.d ≡ 8 = c.in-8.is in
     let within : h.f ≤ 2048 = omega (arith, c.if-head-gt-FULL_MOST.false) in
-    (width_found h (rw e) within, sym e)
+    record { result_value = width_found h (rw e) within; widens = sym e }
 
 pub returns-in_default : goal.returns-in_default
 returns-in_default c =
     let r = c.in_default.in_default-own.rest in
-    (no_width_fault c.args.head r.0.0.0.1 r.0.0.1 r.0.1 r.1, λ e. not_done _ e)
+    record { result_value = no_width_fault c.args.head r.0.0.0.1 r.0.0.1 r.0.1 r.1; widens = λ e. not_done _ e }

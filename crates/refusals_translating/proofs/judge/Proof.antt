@@ -13,7 +13,7 @@ returns c =
     let s = b.before.before.before.before.before.before in
     let a = s.args in
     room_found
-    a.head.now a.nodes.now a.work-len a.table-len a.prologue.now a.body.now a.epilogue.now
+    a.head.now a.nodes.now a.work_len a.table_len a.prologue.now a.body.now a.epilogue.now
     (rw c.if1.true at b.sections-short.ensures)
 
 judge-form-requires : tie.Need-judge-form-requires
@@ -31,7 +31,7 @@ returns-2 c =
     let a = s.args in
     let h = rw i.if1.false at b.sections-short.ensures in
     form_refused
-    a.head.now a.nodes.now a.work-len a.table-len a.prologue.now a.body.now a.epilogue.now
+    a.head.now a.nodes.now a.work_len a.table_len a.prologue.now a.body.now a.epilogue.now
     h f.judge-form.result c.match.keys2 f.judge-form.ensures
 
 header-of-requires : tie.Need-header-of-requires
@@ -56,7 +56,7 @@ returns-3 c =
     let h = rw i.if1.false at b.sections-short.ensures in
     let p = rw t.enum_told.given.1 at f.judge-form.ensures in
     addresses_refused
-    a.head.now a.nodes.now a.work-len a.table-len a.prologue.now a.body.now a.epilogue.now
+    a.head.now a.nodes.now a.work_len a.table_len a.prologue.now a.body.now a.epilogue.now
     h p d.judge-addresses.result c.match2.keys2
     (rw e.header_of.ensures at d.judge-addresses.ensures)
 
@@ -82,7 +82,7 @@ returns-4 c =
     let p = rw t.enum_told.given.1 at f.judge-form.ensures in
     let q = rw (u.enum-told2.given.1, e.header_of.ensures) at d.judge-addresses.ensures in
     offsets_refused
-    a.head.now a.nodes.now a.work-len a.table-len a.prologue.now a.body.now a.epilogue.now
+    a.head.now a.nodes.now a.work_len a.table_len a.prologue.now a.body.now a.epilogue.now
     h p q o.judge-offsets.result c.match3.keys2 o.judge-offsets.ensures
 
 judge-size-requires : tie.Need-judge-size-requires
@@ -106,7 +106,7 @@ returns-5 c =
     let p = rw t.enum_told.given.1 at f.judge-form.ensures in
     let q = rw (u.enum-told2.given.1, e.header_of.ensures) at d.judge-addresses.ensures in
     size_decides
-    a.head.now a.nodes.now a.work-len a.table-len a.prologue.now a.body.now a.epilogue.now
+    a.head.now a.nodes.now a.work_len a.table_len a.prologue.now a.body.now a.epilogue.now
     h p q (rw v.enum-told3.given.1 at o.judge-offsets.ensures) z.judge-size.result
     z.judge-size.ensures
 

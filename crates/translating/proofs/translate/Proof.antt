@@ -25,7 +25,7 @@ returns c =
     let s = j.before.before.before.before.before.before.before.before.before in
     let a = s.args in
     room_leaves
-    a.head.now a.nodes.now a.work-len a.table-len a.prologue.now a.body.now a.epilogue.now
+    a.head.now a.nodes.now a.work_len a.table_len a.prologue.now a.body.now a.epilogue.now
     (rw c.enum_told.given.1 at j.judge.ensures)
 
 clear-requires : tie.Need-clear-requires
@@ -60,7 +60,7 @@ returns-2 c =
     let a = s.args in
     rw (x.clear.ensures, y.clear2.ensures, z.clear3.ensures)
     (refusal_leaves
-    a.head.now a.nodes.now a.work-len a.table-len a.prologue.now a.body.now a.epilogue.now
+    a.head.now a.nodes.now a.work_len a.table_len a.prologue.now a.body.now a.epilogue.now
     j.judge.result j.judge.ensures c.match2.keys2 m.match.keys2)
 
 header-of-requires : tie.Need-header-of-requires
@@ -83,10 +83,10 @@ emit-requires c κs =
     let e = rw t.enum-told2.given.1 at j.judge.ensures in
     rw (l.left-inputs.ensures, h.header_of.ensures, x.clear.ensures, y.clear2.ensures, z.clear3.ensures) (
       program_ready
-          a.head.now a.nodes.now a.work-len a.table-len a.prologue.now a.body.now a.epilogue.now
+          a.head.now a.nodes.now a.work_len a.table_len a.prologue.now a.body.now a.epilogue.now
           e,
       cleared_roomy
-          a.head.now a.nodes.now a.work-len a.table-len a.prologue.now a.body.now a.epilogue.now
+          a.head.now a.nodes.now a.work_len a.table_len a.prologue.now a.body.now a.epilogue.now
           e,
     )
 
@@ -113,7 +113,7 @@ returns-3 c =
     let a = s.args in
     let e = rw t.enum-told2.given.1 at j.judge.ensures in
     program_leaves
-    a.head.now a.nodes.now a.work-len a.table-len a.prologue.now a.body.now a.epilogue.now
+    a.head.now a.nodes.now a.work_len a.table_len a.prologue.now a.body.now a.epilogue.now
     e
     (rw (h.header_of.ensures, x.clear.ensures, y.clear2.ensures, z.clear3.ensures) at w.emit.ensures)
 

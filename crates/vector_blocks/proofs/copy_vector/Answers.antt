@@ -1,8 +1,7 @@
 use borrow.Author.Rules.{rules}
-use Prim.Native.Nat.{◌≤◌, ◌-◌}
 use mathlib.Core.Path.{◌≡◌}
 use native.Mathlib.Omega.{arith}
-use lib.ListN.{length, take, length-set}
+use lib.ListN.{length-set}
 use Rattle.vector_blocks.proofs.BlockLaws.{copied_more, copied_all}
 use Rattle.vector_blocks.proofs.copy_vector.Goals as goal
 

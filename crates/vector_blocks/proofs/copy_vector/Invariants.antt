@@ -1,10 +1,7 @@
 -- `copy_vector`: sixteen bytes, one by one.
-use borrow.Author.Rules.{rules}
 use Prim.Native.Nat.{◌≤◌, ◌-◌}
 use mathlib.Core.Path.{◌≡◌}
-use native.Mathlib.Omega.{arith}
-use lib.ListN.{length, take, length-set}
-use Rattle.vector_blocks.proofs.BlockLaws.{copied_more, copied_all}
+use lib.ListN.{length, take}
 use Rattle.vector_blocks.proofs.copy_vector.Given as goal
 
 abbrev pub invariant-loop-i : goal.invariant-loop-i

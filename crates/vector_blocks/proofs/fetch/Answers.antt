@@ -2,7 +2,6 @@
 use native.Mathlib.Omega.{arith}
 use native.Mathlib.Nat.{add-sub_cancel_left}
 use Rattle.vector_blocks.proofs.BlockLaws.{window_is_work, window_is_table}
-use borrow.Author.Rules.{rules}
 use Rattle.vector_blocks.proofs.fetch.Goals as goal
 
 pub overflow_add-end : goal.overflow_add-end

@@ -1,7 +1,6 @@
 -- `load`: the part that is named, or zeros outside.
 use mathlib.Core.Path.{sym, ◌∙◌}
 use Rattle.vector_blocks.proofs.BlockLaws.{place_inside, length_part, loaded_part, loaded_zeros}
-use borrow.Author.Rules.{rules}
 use Rattle.vector_blocks.proofs.load.Goals as goal
 
 pub fetch-requires : goal.fetch-requires

@@ -1,7 +1,6 @@
 -- `vector_of`: sixteen bytes, one by one.
 use mathlib.Core.Path.{sym}
 use Rattle.vector_blocks.proofs.BlockLaws.{listed_is}
-use borrow.Author.Rules.{rules}
 use Rattle.vector_blocks.proofs.vector_of.Goals as goal
 
 pub returns : goal.returns

@@ -4,7 +4,6 @@ use native.Mathlib.Omega.{arith}
 use mathlib.Core.Path.{◌≡◌, ap, ◌∙◌}
 use Rattle.rules.specs.Elements.{element}
 use Rattle.theory.proofs.ElementLaws.{element_join}
-use borrow.Author.Rules.{rules}
 use Rattle.vector_elements.proofs.four_at.Goals as goal
 
 pub returns : goal.returns

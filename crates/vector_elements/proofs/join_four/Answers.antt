@@ -1,5 +1,4 @@
 -- `join_four`: each element is joined from its two halves.
-use borrow.Author.Rules.{rules}
 use mathlib.Core.Path.{◌∙◌}
 use lib.ListN.{get_or}
 use Rattle.vector_elements.proofs.VectorLaws.{halves_joined}

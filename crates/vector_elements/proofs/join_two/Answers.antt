@@ -1,5 +1,4 @@
 -- `join_two`: each element's low byte, then its high byte, written out.
-use borrow.Author.Rules.{rules}
 use mathlib.Core.Path.{refl}
 use Rattle.vector_elements.proofs.join_two.Goals as goal
 

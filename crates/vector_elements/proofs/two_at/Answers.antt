@@ -2,7 +2,6 @@
 use Prim.Native.Nat.{◌+◌, ◌*◌, ◌%◌}
 use native.Mathlib.Omega.{arith}
 use Rattle.theory.proofs.ElementLaws.{element_one, element_join}
-use borrow.Author.Rules.{rules}
 use Rattle.vector_elements.proofs.two_at.Goals as goal
 
 pub returns : goal.returns
