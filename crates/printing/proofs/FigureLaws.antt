@@ -6,8 +6,6 @@ use mathlib.Core.Bool.{true, false, ◌||◌}
 use mathlib.Core.List.{List, [], ◌∷◌}
 use native.Mathlib.Nat.{mul-le-mul, zero-mul}
 use native.Mathlib.Omega.{arith}
-use types.Run.{OneOf, miss}
-use denote.Enum.Declared.{tag_of}
 use lib.ListN.{replicate}
 use Rattle.rules.specs.Limits.{vector_bytes, elements_most, nodes_most, section_most, window_most, long_most, head_entries, row_entries}
 use Rattle.rules.specs.Answers.{Answer, DONE, done, first, of_read, of_translate, of_plan}
@@ -27,9 +25,6 @@ use Rattle.rules.specs.declared.answers.TranslateAnswer.{TranslateAnswer}
 use Rattle.rules.specs.declared.answers.TranslateAnswer.TheVariants as Translate
 use Rattle.rules.specs.declared.answers.PlanAnswer.{PlanAnswer}
 use Rattle.rules.specs.declared.answers.PlanAnswer.TheVariants as Plan
-use Rattle.rules.specs.contracts.answers.ReadAnswer.{the_type as read-type}
-use Rattle.rules.specs.contracts.answers.TranslateAnswer.{the_type as translate-type}
-use Rattle.rules.specs.contracts.answers.PlanAnswer.{the_type as plan-type}
 use Rattle.theory.proofs.RowLaws.{padded_rows_read_back}
 use Rattle.theory.proofs.FormLaws.{Formed, each_check_done, refuse_done, passes_formed, formed_passes}
 use Rattle.theory.proofs.Checked.{sixteen, width_is, head_passes, long_done}
@@ -69,30 +64,20 @@ full_few n S h =
 
 -- ---- refusals
 
--- the tags of answers that are not Done, as a match says it
-abbrev read_refused : List ℕ
-read_refused = 1 ∷ 2 ∷ 3 ∷ 4 ∷ []
-
-abbrev translate_refused : List ℕ
-translate_refused = 1 ∷ 2 ∷ 3 ∷ 4 ∷ 5 ∷ 6 ∷ 7 ∷ 8 ∷ 9 ∷ []
-
-abbrev plan_refused : List ℕ
-plan_refused = 1 ∷ 2 ∷ 3 ∷ 4 ∷ 5 ∷ 6 ∷ 7 ∷ 8 ∷ 9 ∷ 10 ∷ []
-
 -- "a reading refusal stands on all four lines": whatever the call after it would answer
-read_stands : (a : ReadAnswer) → OneOf read_refused (tag_of read-type a) → (later : Answer) (g : Graph) (t : Tree)
+read_stands : (a : ReadAnswer) → (a ≡ Read.Done → ⊥) → (later : Answer) (g : Graph) (t : Tree)
     → refusal (of_read a) ≡ figures (first (of_read a ∷ later ∷ [])) g t
 unfolding first
-read_stands Read.Done h later g t = absurd (miss read_refused 0 tt h)
+read_stands Read.Done h later g t = absurd (h refl)
 read_stands Read.Room h later g t = refl
 read_stands (Read.Line k) h later g t = refl
 read_stands (Read.Range k) h later g t = refl
 read_stands (Read.Shape k) h later g t = refl
 
-translate_stands : (a : TranslateAnswer) → OneOf translate_refused (tag_of translate-type a) → (g : Graph) (t : Tree)
+translate_stands : (a : TranslateAnswer) → (a ≡ Translate.Done → ⊥) → (g : Graph) (t : Tree)
     → refusal (of_translate a) ≡ figures (first (done ∷ of_translate a ∷ [])) g t
 unfolding first
-translate_stands Translate.Done h g t = absurd (miss translate_refused 0 tt h)
+translate_stands Translate.Done h g t = absurd (h refl)
 translate_stands Translate.Room h g t = refl
 translate_stands (Translate.Range k) h g t = refl
 translate_stands (Translate.Shape k) h g t = refl
@@ -103,10 +88,10 @@ translate_stands (Translate.Carry k) h g t = refl
 translate_stands (Translate.Offset k) h g t = refl
 translate_stands Translate.Long h g t = refl
 
-plan_stands : (a : PlanAnswer) → OneOf plan_refused (tag_of plan-type a) → (g : Graph) (t : Tree)
+plan_stands : (a : PlanAnswer) → (a ≡ Plan.Done → ⊥) → (g : Graph) (t : Tree)
     → refusal (of_plan a) ≡ figures (first (done ∷ of_plan a ∷ [])) g t
 unfolding first
-plan_stands Plan.Done h g t = absurd (miss plan_refused 0 tt h)
+plan_stands Plan.Done h g t = absurd (h refl)
 plan_stands Plan.Room h g t = refl
 plan_stands (Plan.Range k) h g t = refl
 plan_stands (Plan.Shape k) h g t = refl
@@ -172,7 +157,7 @@ module _ (head nodes : List ℕ) where
   abbrev drawn_call : WithProgram
   drawn_call = translating vector_bytes head nodes window_most window_most section section section
 
-  pub drawn_unread : (a : ReadAnswer) → OneOf read_refused (tag_of read-type a) → refusal (of_read a) ≡ drawn_figures (sheet_left a head nodes)
+  pub drawn_unread : (a : ReadAnswer) → (a ≡ Read.Done → ⊥) → refusal (of_read a) ≡ drawn_figures (sheet_left a head nodes)
   unfolding drawn_figures
   drawn_unread a h = read_stands a h _ _ _
 
@@ -180,7 +165,7 @@ module _ (head nodes : List ℕ) where
     answered : drawn_call.answer ≡ of_translate r.answer
     answered = sym (ap (λ (x : WithProgram). x.answer) given)
 
-    pub drawn_refused : OneOf translate_refused (tag_of translate-type r.answer)
+    pub drawn_refused : (r.answer ≡ Translate.Done → ⊥)
         → refusal (of_translate r.answer) ≡ drawn_figures (sheet_left Read.Done head nodes)
     unfolding drawn_figures
     drawn_refused h = rw answered (translate_stands r.answer h _ _)
@@ -207,7 +192,7 @@ module _ (head nodes : List ℕ) (rule : ℕ) where
   abbrev placed_call : WithProgram
   placed_call = planning vector_bytes rule head nodes window_most window_most section section section
 
-  pub placed_unread : (a : ReadAnswer) → OneOf read_refused (tag_of read-type a)
+  pub placed_unread : (a : ReadAnswer) → (a ≡ Read.Done → ⊥)
       → refusal (of_read a) ≡ placed_figures (sheet_left a head nodes) rule
   unfolding placed_figures
   placed_unread a h = read_stands a h _ _ _
@@ -216,7 +201,7 @@ module _ (head nodes : List ℕ) (rule : ℕ) where
     planned : placed_call.answer ≡ of_plan r.answer
     planned = sym (ap (λ (x : WithProgram). x.answer) given)
 
-    pub placed_refused : OneOf plan_refused (tag_of plan-type r.answer)
+    pub placed_refused : (r.answer ≡ Plan.Done → ⊥)
         → refusal (of_plan r.answer) ≡ placed_figures (sheet_left Read.Done head nodes) rule
     unfolding placed_figures
     placed_refused h = rw planned (plan_stands r.answer h _ _)

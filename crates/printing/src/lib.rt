@@ -1,6 +1,7 @@
 // What the programs `places` and `edges` print, as functions on slices (document 01, "The program `places`"): the four lines of a
 // text, and the line of the graph as it is drawn.
 #![tactic(auto)]
+
 mod cases;
 mod figures;
 mod lines;

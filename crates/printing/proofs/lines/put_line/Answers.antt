@@ -1,0 +1,7 @@
+-- The line's bytes, as digits.
+use Rattle.rules.specs.Printing.{line}
+use Rattle.printing.proofs.lines.put_line.Goals as goal
+
+pub returns : goal.returns
+unfolding line
+returns c = rw (← c.line_bytes-said.ensures) c.put_hex.ensures
