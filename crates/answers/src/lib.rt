@@ -1,6 +1,7 @@
 // "Numbers the translator gives back": the number, the place and the steps of each case of each call's answer, for callers that
 // have no enums: C, and what is printed.
 #![tactic(auto)]
+
 ghost use Rattle.std.specs.Prelude.{◌≡◌};
 ghost use Rattle.rules.specs.Answers.{of_read, of_check, of_offset, of_plain, of_place, of_translate, of_run, of_plan};
 ghost use Rattle.answers.specs.Given.{answer_of, numbered};

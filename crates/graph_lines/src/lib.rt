@@ -1,6 +1,7 @@
 // The refusals that every call judges alike, 5 to 9, each over all lines at once: what is found is the first place at fault. The
 // calls put them in their order.
 #![tactic(auto)]
+
 use rules::limits::{V, WINDOW_MOST, WORK};
 
 mod addresses;

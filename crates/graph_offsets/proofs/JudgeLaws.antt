@@ -7,7 +7,6 @@ use native.Mathlib.Omega.{arith}
 use lib.ListN.{length, set}
 use lib.Seq.{get_or-set_same, get_or-set_other}
 use Rattle.rules.specs.Limits.{vector_bytes}
-use Rattle.rules.specs.Answers.{at, first}
 use Rattle.rules.specs.Trees.{Tree, bytes, node_at, tree_at, tree_of}
 use Rattle.rules.specs.Offsets.{agree, join, is_at, offset, rule_kept}
 use Rattle.rules.specs.Checks.{line}

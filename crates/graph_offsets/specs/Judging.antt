@@ -1,5 +1,5 @@
 -- A node's rule and offset in the code's own answers, and what is known of the nodes so far.
-use Rattle.std.specs.Prelude.{ℕ, ◌-◌, ◌<◌, ◌≡◌, Bool, true, false, not, List, ◌++◌, get_or}
+use Rattle.std.specs.Prelude.{ℕ, ◌<◌, ◌≡◌, Bool, true, false, not, List, ◌++◌, get_or}
 use Rattle.rules.specs.Limits.{vector_bytes}
 use Rattle.rules.specs.Answers.{Answer, OFFSET, done, at, refuse_if, first, each}
 use Rattle.rules.specs.Trees.{Tree, bytes, node_at, tree_at, tree_of}

@@ -1,5 +1,6 @@
 // The offset rules (document 001, section 3.3), and the offset check as a call of its own.
 #![tactic(auto)]
+
 mod nodes;
 mod pairs;
 

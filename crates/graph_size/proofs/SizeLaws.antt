@@ -2,9 +2,7 @@
 use Prim.Native.Nat.{ℕ, ◌+◌, ◌*◌, ◌-◌, ◌≤◌, ◌<◌}
 use native.Mathlib.Omega.{arith}
 use mathlib.Core.Path.{◌≡◌, refl, sym, ap, ◌∙◌}
-use mathlib.Core.List.{List, [], ◌∷◌}
-use types.Run.{OneOf, miss}
-use denote.Enum.Declared.{tag_of}
+use mathlib.Core.List.{List}
 use lib.ListN.{get_or}
 use Rattle.rules.specs.Limits.{vector_bytes, nodes_most, long_most}
 use Rattle.rules.specs.Answers.{Answer, DONE, done, of_check}
@@ -14,7 +12,6 @@ use Rattle.rules.specs.Tables.{Graph, graph_of}
 use Rattle.rules.specs.Calls.{checking, graph_tree}
 use Rattle.rules.specs.declared.answers.CheckAnswer.{CheckAnswer}
 use Rattle.rules.specs.declared.answers.CheckAnswer.TheVariants as Check
-use Rattle.rules.specs.contracts.answers.CheckAnswer.{the_type}
 use Rattle.rules.specs.declared.nodes.LoadAt.{LoadAt}
 use Rattle.rules.specs.declared.nodes.ShiftBy.{ShiftBy}
 use Rattle.rules.specs.declared.nodes.Node.TheVariants as Node
@@ -22,7 +19,7 @@ use Rattle.theory.proofs.FormLaws.{Formed}
 use Rattle.theory.proofs.Firsts.{checked_formed}
 use Rattle.graph.specs.Headers.{header_of}
 use Rattle.graph.specs.Links.{lefts}
-use Rattle.graph_size.specs.Sizing.{capped, size_by, size_of}
+use Rattle.graph_size.specs.Sizing.{capped, size_of}
 use Rattle.graph.proofs.HeaderLaws.{header_graph}
 use Rattle.graph.proofs.InputLaws.{tree, LinkedTo, load_tree, splat_tree, op_tree, shift_tree, some_node, linked_root, root_tree}
 
@@ -57,15 +54,11 @@ module _ (nodes left : List ℕ) (k : ℕ) (to : LinkedTo nodes left (k + 1)) wh
 
 -- ---- a graph handed over as tables
 
--- the tags of answers that are not Done, as a match says it
-abbrev not_done : List ℕ
-not_done = 1 ∷ 2 ∷ 3 ∷ []
-
 module _ (head nodes : List ℕ) where
-  pub refused_size : (form : CheckAnswer) → of_check form ≡ checking vector_bytes head nodes → OneOf not_done (tag_of the_type form)
+  pub refused_size : (form : CheckAnswer) → of_check form ≡ checking vector_bytes head nodes → (form ≡ Check.Done → ⊥)
       → 0 ≡ size_of head nodes
   unfolding size_of
-  refused_size Check.Done e t = absurd (miss not_done 0 tt t)
+  refused_size Check.Done e t = absurd (t refl)
   refused_size Check.Room e t = rw (← e)
   refused_size (Check.Range k) e t = rw (← e)
   refused_size (Check.Shape k) e t = rw (← e)

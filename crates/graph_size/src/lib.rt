@@ -1,5 +1,6 @@
 // G, the number of instructions of a graph's tree, counted no further than LONG needs it: 64 nodes can have 2^64 - 1.
 #![tactic(auto)]
+
 ghost use Rattle.std.specs.Prelude.{◌≡◌, ℕ, ◌+◌, ◌<◌, get_or};
 ghost use Rattle.rules.specs.Limits.{nodes_most};
 ghost use Rattle.rules.specs.Trees.{node_at, tree_at};

@@ -3,14 +3,11 @@
 use Prim.Native.Nat.{ℕ, zero, suc, ◌+◌, ◌%◌, ◌≤◌, ◌<◌}
 use mathlib.Core.Path.{◌≡◌, refl, ◌∙◌}
 use mathlib.Core.Bool.{Bool, true, false, cond}
-use mathlib.Core.Logic.{inl, inr}
 use mathlib.Core.List.{List, [], ◌∷◌}
 use native.Mathlib.Nat.{mod-lt}
 use native.Mathlib.Omega.{arith}
 use borrow.Author.Count.{below_more}
 use borrow.Author.Tests.{ltb-true, ltb-false, eqb-true, eqb-false}
-use types.Run.{OneOf}
-use denote.Enum.Declared.{tag_of}
 use lib.Dec.{ltb, eqb}
 use lib.ListN.{length, get_or, set, replicate}
 use lib.Seq.{get_or-set_same, get_or-set_other}
@@ -20,7 +17,6 @@ use Rattle.rules.specs.Placing.{times}
 use Rattle.rules.specs.declared.nodes.LoadAt.{LoadAt}
 use Rattle.rules.specs.declared.nodes.Node.{Node}
 use Rattle.rules.specs.declared.nodes.Node.TheVariants.{Load, Splat, Op, Shift}
-use Rattle.rules.specs.contracts.nodes.Node.{the_type}
 use Rattle.placing_targets.specs.Met.{meets, met_in, Counted, count_at, Largest, largest, dominant_in}
 
 -- ---- counting
@@ -98,20 +94,12 @@ module _ (node : ℕ → Node) (before : List ℕ) (k : ℕ) (counts : List ℕ)
       rw (met_next vector_bytes node before k (Load a) e)
       (counted_next vector_bytes (a.address.0 % vector_bytes) _ (met k) counts (mod-lt a.address.0 (omega arith)) (omega arith) h refl)
 
-  -- the tag of a node that is no load, as a match says it
-  abbrev Other : Node → Type 0
-  Other n = OneOf (1 ∷ 2 ∷ 3 ∷ []) (tag_of the_type n)
-
-  pub other_counted : (n : Node) → node k ≡ n → Other n → Counted vector_bytes (met k) counts → Counted vector_bytes (met (k + 1)) counts
-  other_counted n e other h = rw (met_next vector_bytes node before k n e, stays n (met k) (above (tag_of the_type n) other)) h
+  pub other_counted : (n : Node) → node k ≡ n → ((a : LoadAt) → n ≡ Load a → ⊥) → Counted vector_bytes (met k) counts
+      → Counted vector_bytes (met (k + 1)) counts
+  other_counted n e other h = rw (met_next vector_bytes node before k n e, stays n (met k) other) h
     where
-      above : (x : ℕ) → OneOf (1 ∷ 2 ∷ 3 ∷ []) x → 0 < x
-      above x (inl p) = omega arith
-      above x (inr (inl p)) = omega arith
-      above x (inr (inr p)) = omega arith
-
-      stays : (n : Node) (met : List ℕ) → 0 < tag_of the_type n → meets vector_bytes n met ≡ met
-      stays (Load a) met h = absurd (omega arith)
+      stays : (n : Node) (met : List ℕ) → ((a : LoadAt) → n ≡ Load a → ⊥) → meets vector_bytes n met ≡ met
+      stays (Load a) met h = absurd (h a refl)
       stays (Splat v) met h = refl
       stays (Op o) met h = refl
       stays (Shift s) met h = refl

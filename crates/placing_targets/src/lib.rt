@@ -1,6 +1,7 @@
 // What a placing rule moves, and where: 0 ZERO, 1 EAGER, 2 LAZY, 3 DOMINANT. Every table is answered for, also one that does not
 // pass as a graph: DOMINANT goes by its rows.
 #![tactic(auto)]
+
 mod dominant;
 
 ghost use Rattle.std.specs.Prelude.{◌≡◌};

@@ -1,6 +1,7 @@
 // The range rules (document 01, "3 RANGE: a field outside its range") as one piece: a sheet that is read and one that is
 // handed over as tables are judged by the same functions. Each answers for all numbers.
 #![tactic(auto)]
+
 ghost use Rattle.std.specs.Prelude.{◌≡◌, ◌%◌, eqb};
 ghost use Rattle.rules.specs.Limits.{vector_bytes};
 ghost use Rattle.rules.specs.Units.{width_bytes, is_width};

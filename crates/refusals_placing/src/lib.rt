@@ -1,5 +1,6 @@
 // Whether a sheet can be placed: what placing refuses, in its order. ROOM, a rule above 3, RANGE and SHAPE as if read, BARE, ALIGN.
 #![tactic(auto)]
+
 ghost use Rattle.std.specs.Prelude.{◌≡◌, ◌||◌};
 ghost use Rattle.rules.specs.Limits.{vector_bytes};
 ghost use Rattle.rules.specs.Answers.{first, of_place};

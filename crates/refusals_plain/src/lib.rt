@@ -1,5 +1,6 @@
 // Whether the plain loop may go: the first refusal, in the order of the numbers.
 #![tactic(auto)]
+
 ghost use Rattle.std.specs.Prelude.{◌≡◌};
 ghost use Rattle.rules.specs.Limits.{vector_bytes};
 ghost use Rattle.rules.specs.Answers.{of_plain};

@@ -1,6 +1,7 @@
 // Whether a bare sheet can be planned: the one-step call's refusals, in their order. Each check is another crate's; here they are
 // put in order. After them neither OFFSET nor LONG is ever given, so the placed graph is not judged here.
 #![tactic(auto)]
+
 ghost use Rattle.std.specs.Prelude.{◌≡◌};
 ghost use Rattle.rules.specs.Limits.{vector_bytes};
 ghost use Rattle.rules.specs.Answers.{first, of_plan};

@@ -5,8 +5,6 @@ use mathlib.Core.Path.{◌≡◌, refl, sym, ap, ◌∙◌}
 use mathlib.Core.Bool.{Bool, true, false, ◌||◌}
 use mathlib.Core.List.{List, [], ◌∷◌, ◌++◌}
 use borrow.Author.Tests.{lt-ltb, le-ltb}
-use types.Run.{OneOf, miss}
-use denote.Enum.Declared.{tag_of}
 use lib.Dec.{ltb}
 use Rattle.rules.specs.Limits.{vector_bytes, long_most}
 use Rattle.rules.specs.Answers.{Answer, first, or_else, of_translate}
@@ -16,7 +14,6 @@ use Rattle.rules.specs.Checks.{head_short, nodes_short, section_short, room_chec
 use Rattle.rules.specs.Calls.{checking, offset_checking, graph_tree, translate_answer}
 use Rattle.rules.specs.declared.answers.TranslateAnswer.{TranslateAnswer}
 use Rattle.rules.specs.declared.answers.TranslateAnswer.TheVariants as Translate
-use Rattle.rules.specs.contracts.answers.TranslateAnswer.{the_type}
 use Rattle.theory.proofs.FormLaws.{Formed, each_check_done, passes_formed}
 use Rattle.theory.proofs.Lists.{split}
 use Rattle.theory.proofs.Firsts.{first_passed}
@@ -26,15 +23,12 @@ use Rattle.graph_size.specs.Sizing.{capped, size_of}
 use Rattle.graph_size.proofs.SizeLaws.{checked_size}
 use Rattle.refusals_translating.specs.Judging.{address_checks, size_check}
 
--- the tags of answers that are not Done, and of those that are not Room, as a match says it
-abbrev pub not_done : List ℕ
-not_done = 1 ∷ 2 ∷ 3 ∷ 4 ∷ 5 ∷ 6 ∷ 7 ∷ 8 ∷ 9 ∷ []
+-- an answer that is not Done, and one that is not Room, as a match says it
+abbrev pub NotDone : TranslateAnswer → Type 0
+NotDone a = a ≡ Translate.Done → ⊥
 
-abbrev pub not_room : List ℕ
-not_room = 0 ∷ 2 ∷ 3 ∷ 4 ∷ 5 ∷ 6 ∷ 7 ∷ 8 ∷ 9 ∷ []
-
-abbrev pub Tagged : List ℕ → TranslateAnswer → Type 0
-Tagged tags a = OneOf tags (tag_of the_type a)
+abbrev pub NotRoom : TranslateAnswer → Type 0
+NotRoom a = a ≡ Translate.Room → ⊥
 
 -- checks that are judged together come first one by one
 pub first_nested : (before later : List Answer) → first (first before ∷ later) ≡ first (before ++ later)
@@ -49,9 +43,9 @@ first_nested (a ∷ before) later = go a.number refl (first_nested before later)
     go (suc number) e h = rw e
 
 -- a refusal is the answer, whatever comes after it
-pub refused : (a : TranslateAnswer) → Tagged not_done a → (later : List Answer) → first (of_translate a ∷ later) ≡ of_translate a
+pub refused : (a : TranslateAnswer) → NotDone a → (later : List Answer) → first (of_translate a ∷ later) ≡ of_translate a
 unfolding first
-refused Translate.Done h later = absurd (miss not_done 0 tt h)
+refused Translate.Done h later = absurd (h refl)
 refused Translate.Room h later = refl
 refused (Translate.Range k) h later = refl
 refused (Translate.Shape k) h later = refl
@@ -133,7 +127,7 @@ module _ (head nodes : List ℕ) (work_len table_len : ℕ) (P B E : List ℕ) w
         rw (no_section_short (head_short head || nodes_short nodes) _ _ _ (sym h))
         (first_nested (room_check (head_short head || nodes_short nodes) ∷ form_check vector_bytes g ∷ []) (address_checks g work_len table_len ++ later))
 
-    pub form_refused : (a : TranslateAnswer) → Tagged not_done a → of_translate a ≡ checking vector_bytes head nodes → of_translate a ≡ all
+    pub form_refused : (a : TranslateAnswer) → NotDone a → of_translate a ≡ checking vector_bytes head nodes → of_translate a ≡ all
     form_refused a t e =
         sym (refused a t (address_checks g work_len table_len ++ later)) ∙ (rw (← e) at by_form)
 
@@ -152,7 +146,7 @@ module _ (head nodes : List ℕ) (work_len table_len : ℕ) (P B E : List ℕ) w
           first_nested (address_checks g work_len table_len) later
           ∙ sym (first_passed (checking vector_bytes head nodes) _ (sym passed)) ∙ by_form
 
-      pub addresses_refused : (a : TranslateAnswer) → Tagged not_done a
+      pub addresses_refused : (a : TranslateAnswer) → NotDone a
           → of_translate a ≡ first (address_checks (graph_in (header_of head) nodes) work_len table_len) → of_translate a ≡ all
       addresses_refused a t e =
           let e' : of_translate a ≡ first (address_checks g work_len table_len) = rw same_graph at e in
@@ -168,7 +162,7 @@ module _ (head nodes : List ℕ) (work_len table_len : ℕ) (P B E : List ℕ) w
             ∙ sym (first_passed (first (address_checks g work_len table_len)) later (sym free'))
             ∙ by_addresses
 
-        pub offsets_refused : (a : TranslateAnswer) → Tagged not_done a → of_translate a ≡ offset_checking vector_bytes head nodes
+        pub offsets_refused : (a : TranslateAnswer) → NotDone a → of_translate a ≡ offset_checking vector_bytes head nodes
             → of_translate a ≡ all
         offsets_refused a t e = sym (refused a t (long_check (graph_tree g) ∷ [])) ∙ (rw (← e) at by_offsets)
 

@@ -1,6 +1,7 @@
 // Whether a graph can be translated: translating's refusals, in the order of their numbers. Each check is another crate's; here
 // they are put in order.
 #![tactic(auto)]
+
 ghost use Rattle.std.specs.Prelude.{◌≡◌, ◌||◌};
 ghost use Rattle.rules.specs.Limits.{vector_bytes};
 ghost use Rattle.rules.specs.Answers.{first, of_translate};

@@ -1,6 +1,7 @@
 // The reader of loop sheets (document 01, "Loop sheet", and "Reading" under the numbers that are given back): any bytes are a
 // sheet or get one fixed refusal.
 #![tactic(auto)]
+
 mod header;
 mod line;
 mod lines;

@@ -2,6 +2,7 @@
 // which knows where its fields stand: one look at the length and one at each digit are enough. Every text and every place of 32
 // bits is answered for: past the end of the text there is no frame.
 #![tactic(auto)]
+
 mod digits;
 
 ghost use Rattle.std.specs.Prelude.{◌≡◌, false, ◌<◌, get_or, eqb};

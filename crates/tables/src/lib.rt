@@ -1,6 +1,7 @@
 // Lent tables of numbers: reading and writing their entries, and the rows of a node table, three entries each. Every function
 // answers for tables of any length: an entry past the end reads as 0, and is not written.
 #![tactic(auto)]
+
 ghost use Rattle.std.specs.Prelude.{◌≡◌, [], length, get_or, set};
 ghost use Rattle.rules.specs.Tables.{padded};
 ghost use Rattle.rules.specs.Trees.{node_at};

@@ -8,13 +8,12 @@ use mathlib.Core.List.{List}
 use lib.Dec.{ltb}
 use lib.ListN.{get_or}
 use Rattle.rules.specs.Limits.{vector_bytes, windows, address_most, operations, section_most, low_values}
-use Rattle.rules.specs.Trees.{Tree, load, splat, op, shift, node_at}
+use Rattle.rules.specs.Trees.{Tree, op, shift, node_at}
 use Rattle.rules.specs.Machine.{Load, Splat, Op}
 use Rattle.rules.specs.Code.{G, beside, pair_up, code}
 use Rattle.rules.specs.declared.nodes.LoadAt.{LoadAt}
 use Rattle.rules.specs.declared.nodes.ShiftBy.{ShiftBy}
 use Rattle.rules.specs.declared.nodes.Node.{Node}
-use Rattle.rules.specs.declared.nodes.Node.TheVariants as Node
 use Rattle.theory.proofs.Coded.{size_pos, length_code}
 use Rattle.translating_rows.specs.Putting.{cut, handed, putting}
 use Rattle.translating.specs.Writing.{Written, Roomy, blocks_most, Ranged, Ready}

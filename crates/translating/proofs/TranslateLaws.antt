@@ -7,12 +7,11 @@ use mathlib.Core.Path.{◌≡◌, refl, sym, ap, ◌∙◌}
 use mathlib.Core.Bool.{Bool, true, false, ◌&&◌, ◌||◌}
 use mathlib.Core.List.{List, [], ◌∷◌, ◌++◌, append-nil, append_assoc}
 use borrow.Author.Tests.{ltb-true, leb-true, ltb-false}
-use types.Run.{miss}
 use lib.Dec.{ltb, leb, eqb}
 use lib.ListN.{length, get_or, length-append}
 use lib.Seq.{sets}
 use Rattle.rules.specs.Limits.{vector_bytes, nodes_most, elements_most, address_most, section_most}
-use Rattle.rules.specs.Answers.{Answer, DONE, at, done, of_translate, first}
+use Rattle.rules.specs.Answers.{Answer, DONE, done, of_translate}
 use Rattle.rules.specs.Units.{width_bytes}
 use Rattle.rules.specs.Ranges.{head_ok, load_ok, op_ok, shift_ok, row_ok}
 use Rattle.rules.specs.Trees.{Tree, load, splat, op, shift, node_at, tree_at}
@@ -36,7 +35,7 @@ use Rattle.graph.specs.declared.headers.Header.{Header}
 use Rattle.graph.specs.Headers.{header_of, graph_in}
 use Rattle.graph.proofs.InputLaws.{some_node, linked_root, root_tree}
 use Rattle.graph.proofs.HeaderLaws.{header_graph}
-use Rattle.refusals_translating.proofs.JudgeLaws.{not_done, not_room, Tagged}
+use Rattle.refusals_translating.proofs.JudgeLaws.{NotDone, NotRoom}
 use Rattle.translating_rows.specs.Putting.{written}
 use Rattle.translating.specs.Writing.{Written, Roomy, Ranged, Root}
 use Rattle.translating.specs.Programs.{headed, Emitted, program_given}
@@ -132,15 +131,15 @@ module _ (head nodes : List ℕ) (work_len table_len : ℕ) (P B E : List ℕ) w
   abbrev cleared : List ℕ → List ℕ
   cleared section = padded (length section) []
 
-  pub refusal_leaves : (a : TranslateAnswer) → Answers a → Tagged not_done a → Tagged not_room a
+  pub refusal_leaves : (a : TranslateAnswer) → Answers a → NotDone a → NotRoom a
       → given a no_program (cleared P) (cleared B) (cleared E) ≡ all
   unfolding translating
   refusal_leaves a e not_done not-room = rw (← e) (go a not_done not-room)
     where
-      go : (a : TranslateAnswer) → Tagged not_done a → Tagged not_room a
+      go : (a : TranslateAnswer) → NotDone a → NotRoom a
           → given a no_program (cleared P) (cleared B) (cleared E) ≡ program_left (of_translate a) g.D p P B E
-      go Translate.Done d r = absurd (miss not_done 0 tt d)
-      go Translate.Room d r = absurd (miss not_room 1 tt r)
+      go Translate.Done d r = absurd (d refl)
+      go Translate.Room d r = absurd (r refl)
       go (Translate.Range k) d r = refl
       go (Translate.Shape k) d r = refl
       go (Translate.Window k) d r = refl

@@ -1,4 +1,4 @@
-// Bytes, elements and vectors are counted apart: the conversions by D and V that the sections need, and p + n = B.F + e.
+// Bytes, elements and vectors are counted apart: the conversions by D and V that the sections need, and p + n = B·F + e.
 ghost use Rattle.std.specs.Prelude.{◌≡◌, ◌≤◌};
 ghost use Rattle.rules.specs.Limits.{vector_bytes, elements_most};
 ghost use Rattle.rules.specs.Units.{width_bytes, byte_of_element, element_of_byte};

@@ -1,5 +1,6 @@
 // Translating (document 01, "Vector code"): a graph handed over as tables becomes a program in three lent sections, or is refused.
 #![tactic(auto)]
+
 mod counts;
 mod expressions;
 mod programs;

@@ -2,6 +2,7 @@
 // row's number is its destination, and each function gives the next row. Every argument is answered for: a row that does not lie
 // in the section is not written, and what no entry can hold is cut to its low 32 bits.
 #![tactic(auto)]
+
 ghost use Rattle.std.specs.Prelude.{◌≡◌, ◌+◌, ◌*◌, ◌/◌, [], length};
 ghost use Rattle.rules.specs.Limits.{vector_bytes, low_values};
 ghost use Rattle.rules.specs.Machine.{Splat, Op, Splice};

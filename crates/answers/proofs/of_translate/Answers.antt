@@ -1,5 +1,4 @@
 -- In each case the answer is known, and its number, place and steps are given.
-use borrow.Author.Rules.{rules}
 use Rattle.answers.proofs.of_translate.Goals as goal
 
 pub returns-in-Done : goal.returns-in-Done

@@ -1,10 +1,8 @@
 -- Work first.
 use mathlib.Core.Path.{◌≡◌, sym, ◌∙◌}
 use mathlib.Core.Bool.{true, false}
-use borrow.Author.Tests.{not-true, not-false}
 use Rattle.rules.specs.Answers.{first}
 use Rattle.rules.specs.Checks.{window_check}
-use borrow.Author.Rules.{rules}
 use Rattle.graph_lines.proofs.windows.Goals as goal
 
 pub returns-then-not-window_ok : goal.returns-then-not-window_ok

@@ -1,11 +1,11 @@
 -- The nodes, then the root (CheckLaws).
 use Rattle.graph_offsets.proofs.CheckLaws.{nodes_ready, nodes_broken, root_kept_lem, root_broken}
-use borrow.Author.Rules.{rules}
 use Rattle.graph_offsets.proofs.judge.Goals as goal
 
 pub judge_nodes-found-requires : goal.judge_nodes-found-requires
 judge_nodes-found-requires c =
-    rw c.header_of-header.ensures (nodes_ready c.args.head.now c.args.nodes.now c.requires)
+    let ready = nodes_ready c.args.head.now c.args.nodes.now c.requires in
+    rw c.header_of-header.ensures (record { count_nonzero = ready.0; linked = ready.1 })
 
 pub returns-then-agree : goal.returns-then-agree
 returns-then-agree c =

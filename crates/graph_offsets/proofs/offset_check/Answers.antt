@@ -3,7 +3,6 @@ use mathlib.Core.Path.{sym, ◌∙◌}
 use Rattle.rules.specs.Limits.{vector_bytes}
 use Rattle.theory.proofs.Firsts.{checked_formed}
 use Rattle.graph_offsets.proofs.CheckLaws.{form_refuses, form_passes}
-use borrow.Author.Rules.{rules}
 use Rattle.graph_offsets.proofs.offset_check.Goals as goal
 
 pub judge-requires : goal.judge-requires

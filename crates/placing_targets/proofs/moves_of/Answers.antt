@@ -3,7 +3,7 @@ use mathlib.Core.Path.{◌∙◌}
 use Rattle.rules.specs.Limits.{vector_bytes}
 use Rattle.placing_targets.specs.Rules.{moves_of}
 use Rattle.placing_targets.proofs.RuleLaws.{moves_most}
-use borrow.Author.Rules.{rules}
+use native.Mathlib.Omega.{arith}
 use Rattle.placing_targets.proofs.moves_of.Goals as goal
 
 pub returns-in-0 : goal.returns-in-0
@@ -21,6 +21,5 @@ returns-in-2 c = c.inputs_to.ensures ∙ rw c.in-2.is
 pub returns-in_default : goal.returns-in_default
 returns-in_default c =
     let a = c.args in
-    let r = c.in_default.in_default-own.rest in
     rw (c.inputs_to-in_default.ensures, c.dominant.ensures)
-    (moves_most vector_bytes a.head.store.0 a.rule _ r.0.0.1 r.0.1 r.1)
+    (moves_most vector_bytes a.head.store.0 a.rule _ (λ e. omega arith) (λ e. omega arith) (λ e. omega arith))

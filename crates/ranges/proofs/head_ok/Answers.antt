@@ -1,7 +1,6 @@
 -- n, S and D in turn.
 use borrow.Author.Tests.{le-leb, lt-leb}
 use Rattle.rules.specs.Ranges.{head_ok}
-use borrow.Author.Rules.{rules}
 use Rattle.ranges.proofs.head_ok.Goals as goal
 
 pub returns-then-n-gt-ELEMENTS_MOST : goal.returns-then-n-gt-ELEMENTS_MOST

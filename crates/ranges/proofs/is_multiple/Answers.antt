@@ -1,5 +1,4 @@
 -- At each width the remainder is compared with 0.
-use borrow.Author.Rules.{rules}
 use Rattle.ranges.proofs.is_multiple.Goals as goal
 
 pub returns-in-One : goal.returns-in-One

@@ -5,7 +5,6 @@ use Prim.Native.Nat.{ℕ}
 use mathlib.Core.Path.{◌≡◌, refl}
 use mathlib.Core.Bool.{false}
 use Rattle.theory.proofs.RowLaws.{no_node_kind}
-use borrow.Author.Rules.{rules}
 use Rattle.ranges.proofs.row_ok.Goals as goal
 
 pub returns-in-1 : goal.returns-in-1

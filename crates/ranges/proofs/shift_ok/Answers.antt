@@ -1,7 +1,6 @@
 -- Bounds, that the two differ, and multiples, in turn.
-use borrow.Author.Tests.{lt-ltb, le-ltb, not-true, not-false}
+use borrow.Author.Tests.{lt-ltb, le-ltb}
 use Rattle.rules.specs.Ranges.{shift_ok}
-use borrow.Author.Rules.{rules}
 use Rattle.ranges.proofs.shift_ok.Goals as goal
 
 pub returns-then-from-ge-V : goal.returns-then-from-ge-V

@@ -1,6 +1,4 @@
 -- Without its line feed, or by its fields.
-use borrow.Author.Rules.{rules}
-use borrow.Author.Tests.{not-true, not-false}
 use native.Mathlib.Omega.{arith}
 use mathlib.Core.Path.{refl, sym, ◌∙◌}
 use Prim.Native.Nat.{◌+◌}
@@ -12,17 +10,17 @@ use Rattle.sheet_frames.proofs.byte_frame.Goals as goal
 pub returns-then-not-ended : goal.returns-then-not-ended
 returns-then-not-ended c =
     let a = c.args in
-    frame_unfed a.text.now a.at a.kind (digits 2 0 0) (sym c.ended.ensures ∙ not-true _ c.if-not-ended.true)
+    frame_unfed a.text.now a.at a.kind (digits 2 0 0) (sym c.ended.ensures ∙ c.if-not-ended.true)
 
 pub two_digits-x-requires : goal.two_digits-x-requires
 two_digits-x-requires c =
     let a = c.args in
-    omega (arith, fed_within a.text.now (a.at + 4) (sym c.ended.ensures ∙ not-false _ c.if-not-ended.false))
+    omega (arith, fed_within a.text.now (a.at + 4) (sym c.ended.ensures ∙ c.if-not-ended.false))
 
 pub returns : goal.returns
 returns c =
     let a = c.args in
     c.joined.ensures
-    ∙ joins a.text.now a.at a.kind (digits 2 0 0) _ _ _ _ _ _ c.requires.1
-    (sym c.ended.ensures ∙ not-false _ c.if-not-ended.false) (omega arith) c.two_digits-x.ensures
+    ∙ joins a.text.now a.at a.kind (digits 2 0 0) _ _ _ _ _ _ c.requires.at_value
+    (sym c.ended.ensures ∙ c.if-not-ended.false) (omega arith) c.two_digits-x.ensures
     refl (nothing a.text.now _) refl (nothing a.text.now _)

@@ -1,6 +1,5 @@
 -- Past the end of the text, or the byte that stands there.
 use Rattle.sheet_frames.proofs.FrameLaws.{past_unfed}
-use borrow.Author.Rules.{rules}
 use mathlib.Core.Path.{sym}
 use Rattle.sheet_frames.proofs.ended.Goals as goal
 

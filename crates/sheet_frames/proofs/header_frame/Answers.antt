@@ -1,6 +1,4 @@
 -- Without its line feed, a kind that is none or another, or by its fields.
-use borrow.Author.Rules.{rules}
-use borrow.Author.Tests.{not-true, not-false}
 use native.Mathlib.Omega.{arith}
 use mathlib.Core.Path.{◌≡◌, refl, sym, ◌∙◌}
 use Rattle.rules.specs.Frames.{field_digits}
@@ -14,12 +12,12 @@ pub returns-then-not-ended : goal.returns-then-not-ended
 unfolding field_digits
 returns-then-not-ended c =
     let text = c.args.text.now in
-    header_unended text (frame_unfed text 0 0 (field_digits 0) (sym c.ended.ensures ∙ not-true _ c.if-not-ended.true))
+    header_unended text (frame_unfed text 0 0 (field_digits 0) (sym c.ended.ensures ∙ c.if-not-ended.true))
 
 pub two_digits-requires : goal.two_digits-requires
 two_digits-requires c =
     let text = c.args.text.now in
-    omega (arith, fed_within text 12 (sym c.ended.ensures ∙ not-false _ c.if-not-ended.false))
+    omega (arith, fed_within text 12 (sym c.ended.ensures ∙ c.if-not-ended.false))
 
 pub returns-in_default : goal.returns-in_default
 returns-in_default c =
@@ -34,17 +32,17 @@ returns-then-kind-ne-HEADER_KIND c =
 pub two_digits-x-requires : goal.two_digits-x-requires
 two_digits-x-requires c =
     let text = c.args.text.now in
-    omega (arith, fed_within text 12 (sym c.ended.ensures ∙ not-false _ c.if-not-ended.false))
+    omega (arith, fed_within text 12 (sym c.ended.ensures ∙ c.if-not-ended.false))
 
 pub four_digits-y-requires : goal.four_digits-y-requires
 four_digits-y-requires c =
     let text = c.args.text.now in
-    omega (arith, fed_within text 12 (sym c.ended.ensures ∙ not-false _ c.if-not-ended.false))
+    omega (arith, fed_within text 12 (sym c.ended.ensures ∙ c.if-not-ended.false))
 
 pub four_digits-z-requires : goal.four_digits-z-requires
 four_digits-z-requires c =
     let text = c.args.text.now in
-    omega (arith, fed_within text 12 (sym c.ended.ensures ∙ not-false _ c.if-not-ended.false))
+    omega (arith, fed_within text 12 (sym c.ended.ensures ∙ c.if-not-ended.false))
 
 pub returns : goal.returns
 unfolding field_digits
@@ -55,5 +53,5 @@ returns c =
     c.joined.ensures
     ∙ header_joined text zero c.two_digits-x.result c.four_digits-y.result c.four_digits-z.result 13
     (joins text 0 0 (field_digits 0) _ _ _ _ _ _ (spelt text 0 2 0 zero).0
-    (sym c.ended.ensures ∙ not-false _ c.if-not-ended.false) refl c.two_digits-x.ensures refl c.four_digits-y.ensures
+    (sym c.ended.ensures ∙ c.if-not-ended.false) refl c.two_digits-x.ensures refl c.four_digits-y.ensures
     refl c.four_digits-z.ensures)

@@ -1,5 +1,4 @@
 -- A broken field, or the frame.
-use borrow.Author.Rules.{rules}
 use Rattle.sheet_frames.proofs.joined.Goals as goal
 
 pub returns : goal.returns

@@ -1,5 +1,4 @@
 -- The kind byte past the end, not of a kind, or by its second digit.
-use borrow.Author.Rules.{rules}
 use native.Mathlib.Omega.{arith}
 use mathlib.Core.Path.{sym, ◌∙◌}
 use Rattle.rules.specs.Frames.{field_digits}
@@ -16,23 +15,23 @@ returns-then-text-at-ne-ZERO c =
 
 pub load_frame-requires : goal.load_frame-requires
 load_frame-requires c =
-    (omega arith, kind_digits _ _ 1 c.if-text-at-ne-ZERO.false (sym c.in-1.is ∙ c.digit-kind.ensures) (omega arith))
+    record { at_lt_places = omega arith; at_value = kind_digits _ _ 1 c.if-text-at-ne-ZERO.false (sym c.in-1.is ∙ c.digit-kind.ensures) (omega arith) }
 
 pub splat_frame-requires : goal.splat_frame-requires
 splat_frame-requires c =
-    (omega arith, kind_digits _ _ 2 c.if-text-at-ne-ZERO.false (sym c.in-2.is ∙ c.digit-kind.ensures) (omega arith))
+    record { at_lt_places = omega arith; at_value = kind_digits _ _ 2 c.if-text-at-ne-ZERO.false (sym c.in-2.is ∙ c.digit-kind.ensures) (omega arith) }
 
 pub byte_frame-requires : goal.byte_frame-requires
 byte_frame-requires c =
-    (omega arith, kind_digits _ _ 3 c.if-text-at-ne-ZERO.false (sym c.in-3.is ∙ c.digit-kind.ensures) (omega arith))
+    record { at_lt_places = omega arith; at_value = kind_digits _ _ 3 c.if-text-at-ne-ZERO.false (sym c.in-3.is ∙ c.digit-kind.ensures) (omega arith) }
 
 pub shift_frame-requires : goal.shift_frame-requires
 shift_frame-requires c =
-    (omega arith, kind_digits _ _ 4 c.if-text-at-ne-ZERO.false (sym c.in-4.is ∙ c.digit-kind.ensures) (omega arith))
+    record { at_lt_places = omega arith; at_value = kind_digits _ _ 4 c.if-text-at-ne-ZERO.false (sym c.in-4.is ∙ c.digit-kind.ensures) (omega arith) }
 
 pub byte_frame-requires-in-5 : goal.byte_frame-requires-in-5
 byte_frame-requires-in-5 c =
-    (omega arith, kind_digits _ _ 5 c.if-text-at-ne-ZERO.false (sym c.in-5.is ∙ c.digit-kind.ensures) (omega arith))
+    record { at_lt_places = omega arith; at_value = kind_digits _ _ 5 c.if-text-at-ne-ZERO.false (sym c.in-5.is ∙ c.digit-kind.ensures) (omega arith) }
 
 pub returns-in-1 : goal.returns-in-1
 unfolding field_digits
@@ -67,6 +66,5 @@ returns-in-5 c =
 pub returns-in_default : goal.returns-in_default
 returns-in_default c =
     let a = c.args in
-    let r = c.in_default.in_default-own.rest in
     later_other a.text.now a.place _ c.if-text-at-ne-ZERO.false c.digit-kind.ensures
-    (λ k z. omega (arith, r.0.0.0.0.1, r.0.0.0.1, r.0.0.1, r.0.1, r.1))
+    (λ k z. omega arith)

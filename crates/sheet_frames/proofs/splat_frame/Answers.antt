@@ -1,6 +1,4 @@
 -- Without its line feed, or by its fields.
-use borrow.Author.Rules.{rules}
-use borrow.Author.Tests.{not-true, not-false}
 use native.Mathlib.Omega.{arith}
 use mathlib.Core.Path.{refl, sym, ◌∙◌}
 use Prim.Native.Nat.{◌+◌}
@@ -13,18 +11,21 @@ pub returns-then-not-ended : goal.returns-then-not-ended
 unfolding field_digits
 returns-then-not-ended c =
     let a = c.args in
-    frame_unfed a.text.now a.at splat_kind (field_digits splat_kind) (sym c.ended.ensures ∙ not-true _ c.if-not-ended.true)
+    frame_unfed a.text.now a.at splat_kind (field_digits splat_kind) (sym c.ended.ensures ∙ c.if-not-ended.true)
 
 pub number-x-requires : goal.number-x-requires
 number-x-requires c =
     let a = c.args in
-    (omega (arith, fed_within a.text.now (a.at + 18) (sym c.ended.ensures ∙ not-false _ c.if-not-ended.false)), omega arith)
+    record {
+      bytes_in_bounds = omega (arith, fed_within a.text.now (a.at + 18) (sym c.ended.ensures ∙ c.if-not-ended.false));
+      bytes_le_number_most = omega arith;
+    }
 
 pub returns : goal.returns
 unfolding field_digits
 returns c =
     let a = c.args in
     c.joined.ensures
-    ∙ joins a.text.now a.at splat_kind (field_digits splat_kind) _ _ _ _ _ _ c.requires.1
-    (sym c.ended.ensures ∙ not-false _ c.if-not-ended.false) (omega arith) c.number-x.ensures
+    ∙ joins a.text.now a.at splat_kind (field_digits splat_kind) _ _ _ _ _ _ c.requires.at_value
+    (sym c.ended.ensures ∙ c.if-not-ended.false) (omega arith) c.number-x.ensures
     refl (nothing a.text.now _) refl (nothing a.text.now _)

@@ -49,7 +49,7 @@ returns-2 c =
     let tested = made.before.before.before.before in
     let a = tested.before.before.before.before.before.before.before.args in
     rw (left.leave-program.ensures, packs.packed2.ensures ∙ ap packed numbered.of-translate2.ensures)
-    (translated_handed a.head.now a.nodes.now a.work-len a.table-len a.program.now a.prologue.now a.body.now
+    (translated_handed a.head.now a.nodes.now a.work_len a.table_len a.program.now a.prologue.now a.body.now
     a.epilogue.now made.translate.result _ _ _ tested.if1.false made.translate.ensures)
 
 pub sinkerjaw-translate-spec : {M : Type 1} → statement M

@@ -1,12 +1,8 @@
 -- The invariant: the first i entries are zero, and the others as they were.
 use Prim.Native.Nat.{◌≤◌, ◌-◌}
-use mathlib.Core.Path.{◌≡◌, refl, ◌∙◌}
-use mathlib.Core.List.{◌++◌, append-nil}
-use lib.ListN.{length, replicate, drop, length-set}
-use lib.Seq.{drop-length}
-use borrow.Author.Fill.{fill_more}
-use native.Mathlib.Omega.{arith}
-use Rattle.tables.proofs.TableLaws.{padded_none}
+use mathlib.Core.Path.{◌≡◌}
+use mathlib.Core.List.{◌++◌}
+use lib.ListN.{length, replicate, drop}
 use Rattle.tables.proofs.clear.Given as goal
 
 abbrev pub invariant-loop-i : goal.invariant-loop-i

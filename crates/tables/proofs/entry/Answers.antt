@@ -1,7 +1,6 @@
 -- An entry past the end reads as 0.
 use mathlib.Core.Path.{sym}
 use lib.ListN.{get_or-eq_default}
-use borrow.Author.Rules.{rules}
 use Rattle.tables.proofs.entry.Goals as goal
 
 pub returns-else-i-table : goal.returns-else-i-table

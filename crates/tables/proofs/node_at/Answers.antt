@@ -5,7 +5,6 @@ use Rattle.rules.specs.Trees.{node_of}
 use Rattle.rules.specs.declared.nodes.Node.TheVariants.{Splat}
 use Rattle.theory.proofs.RowLaws.{no_node_kind}
 use Rattle.tables.proofs.TableLaws.{node_of_row}
-use borrow.Author.Rules.{rules}
 use Rattle.tables.proofs.node_at.Goals as goal
 
 pub returns-in-1 : goal.returns-in-1

@@ -1,7 +1,6 @@
 -- An entry past the end is not written.
 use mathlib.Core.Path.{sym}
 use lib.Seq.{set_out}
-use borrow.Author.Rules.{rules}
 use Rattle.tables.proofs.put.Goals as goal
 
 pub returns-else-i-table : goal.returns-else-i-table

@@ -1,6 +1,5 @@
 -- Three entries, each put after the one before.
 use mathlib.Core.Path.{◌∙◌}
-use borrow.Author.Rules.{rules}
 use Rattle.tables.proofs.put_row.Goals as goal
 
 pub returns : goal.returns

@@ -1,6 +1,5 @@
 -- A row is its three entries.
 use native.Mathlib.Nat.{add-zero}
-use borrow.Author.Rules.{rules}
 use Rattle.tables.proofs.row_at.Goals as goal
 
 pub returns : goal.returns

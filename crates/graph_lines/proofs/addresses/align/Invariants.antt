@@ -1,17 +1,14 @@
 -- The store, then the rows in their order (LineLaws).
 use Prim.Native.Nat.{ℕ, ◌-◌, ◌≤◌}
-use mathlib.Core.Path.{sym, ap, ◌∙◌}
-use mathlib.Core.Bool.{Bool, not, ◌&&◌}
-use native.Mathlib.Omega.{arith}
-use borrow.Author.Rules.{rules}
+use mathlib.Core.Bool.{Bool, ◌&&◌}
 use lib.Dec.{eqb}
 use Rattle.rules.specs.Units.{width_bytes}
 use Rattle.rules.specs.Frames.{load_kind}
-use Rattle.rules.specs.Checks.{misaligned, align_check}
+use Rattle.rules.specs.Checks.{misaligned}
 use Rattle.rules.specs.declared.sheet.Row.{Row}
 use Rattle.rules.specs.declared.units.Width.{Width}
-use Rattle.theory.proofs.Firsts.{Passed, passed_none}
-use Rattle.graph_lines.proofs.LineLaws.{row_judged, store_refuses, store_passes, row_passes, row_refuses, rows_pass}
+use Rattle.theory.proofs.Firsts.{Passed}
+use Rattle.graph_lines.proofs.LineLaws.{row_judged}
 use Rattle.graph_lines.proofs.addresses.align.Given as goal
 
 abbrev pub wrong : Width → ℕ → Row → Bool

@@ -4,7 +4,6 @@ use mathlib.Core.Path.{ap, ◌∙◌}
 use lib.Dec.{ltb}
 use Rattle.rules.specs.Units.{width_bytes}
 use Rattle.graph_lines.proofs.AddressLaws.{width_positive, end_first, few_have_room}
-use borrow.Author.Rules.{rules}
 use Rattle.graph_lines.proofs.addresses.beyond.Goals as goal
 
 pub returns-then-end-address : goal.returns-then-end-address

@@ -1,16 +1,8 @@
-use Prim.Native.Nat.{ℕ, ◌-◌, ◌≤◌}
 use mathlib.Core.Path.{sym, ◌∙◌}
-use mathlib.Core.Bool.{Bool, ◌&&◌}
 use native.Mathlib.Omega.{arith}
-use borrow.Author.Rules.{rules}
-use lib.Dec.{eqb}
-use Rattle.rules.specs.Units.{width_bytes}
-use Rattle.rules.specs.Frames.{load_kind}
-use Rattle.rules.specs.Checks.{beyond, length_of, bounds_check}
-use Rattle.rules.specs.declared.sheet.Row.{Row}
-use Rattle.graph.specs.declared.headers.Header.{Header}
-use Rattle.theory.proofs.Firsts.{Passed, passed_none}
-use Rattle.graph_lines.proofs.LineLaws.{row_judged, store_refuses, store_passes, row_passes, row_refuses, rows_pass}
+use Rattle.rules.specs.Checks.{bounds_check}
+use Rattle.theory.proofs.Firsts.{passed_none}
+use Rattle.graph_lines.proofs.LineLaws.{store_refuses, store_passes, row_passes, row_refuses, rows_pass}
 use Rattle.graph_lines.proofs.addresses.bounds.Invariants.{wrong}
 use Rattle.graph_lines.proofs.addresses.bounds.Goals as goal
 
@@ -30,7 +22,7 @@ returns-then-row_beyond c =
     let a = c.args in
     let row = c.row_at-row in
     let found = c.row_beyond in
-    row_refuses 7 (wrong a.head a.work-len a.table-len) a.nodes.now l.k l.invariant.1 _ row.ensures _ found.ensures a.head.count
+    row_refuses 7 (wrong a.head a.work_len a.table_len) a.nodes.now l.k l.invariant.1 _ row.ensures _ found.ensures a.head.count
     c.loop-k-test.true c.if-row_beyond.true
     ∙ store_passes 7 1 _ _ (sym c.beyond.ensures ∙ c.if-beyond.false)
 
@@ -41,7 +33,7 @@ loop-k-preserved c =
     let row = c.row_at-row in
     let found = c.row_beyond in (
       omega arith,
-      row_passes 7 (wrong a.head a.work-len a.table-len) a.nodes.now l.k l.invariant.1 _ row.ensures _ found.ensures c.if-row_beyond.false,
+      row_passes 7 (wrong a.head a.work_len a.table_len) a.nodes.now l.k l.invariant.1 _ row.ensures _ found.ensures c.if-row_beyond.false,
     )
 
 pub returns : goal.returns
@@ -49,5 +41,5 @@ unfolding bounds_check
 returns c =
     let l = c.loop-k in
     let a = c.args in
-    rows_pass 7 (wrong a.head a.work-len a.table-len) a.nodes.now a.head.count l.k l.invariant.1 (omega arith)
+    rows_pass 7 (wrong a.head a.work_len a.table_len) a.nodes.now a.head.count l.k l.invariant.1 (omega arith)
     ∙ store_passes 7 1 _ _ (sym c.beyond.ensures ∙ c.if-beyond.false)

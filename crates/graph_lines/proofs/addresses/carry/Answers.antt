@@ -1,15 +1,7 @@
-use Prim.Native.Nat.{ℕ, ◌-◌, ◌≤◌}
-use mathlib.Core.Bool.{Bool, ◌&&◌}
 use native.Mathlib.Omega.{arith}
-use borrow.Author.Rules.{rules}
-use lib.Dec.{eqb}
-use Rattle.rules.specs.Units.{width_bytes}
-use Rattle.rules.specs.Frames.{load_kind}
-use Rattle.rules.specs.Checks.{carries, carry_check}
-use Rattle.rules.specs.declared.sheet.Row.{Row}
-use Rattle.graph.specs.declared.headers.Header.{Header}
-use Rattle.theory.proofs.Firsts.{Passed, passed_none}
-use Rattle.graph_lines.proofs.LineLaws.{row_judged, row_passes, row_refuses, rows_pass}
+use Rattle.rules.specs.Checks.{carry_check}
+use Rattle.theory.proofs.Firsts.{passed_none}
+use Rattle.graph_lines.proofs.LineLaws.{row_passes, row_refuses, rows_pass}
 use Rattle.graph_lines.proofs.addresses.carry.Invariants.{wrong}
 use Rattle.graph_lines.proofs.addresses.carry.Goals as goal
 

@@ -1,7 +1,6 @@
 -- Only a load has an address, and a window that is not work is table.
 use borrow.Author.Tests.{eq-eqb, ne_eqb}
 use Rattle.graph_lines.proofs.AddressLaws.{table_length}
-use borrow.Author.Rules.{rules}
 use Rattle.graph_lines.proofs.addresses.row_beyond.Goals as goal
 
 pub returns-then-row-ne-LOAD_KIND : goal.returns-then-row-ne-LOAD_KIND
@@ -13,4 +12,4 @@ returns-then-row-eq-WORK c = rw (eq-eqb _ 1 c.if-row-ne-LOAD_KIND.false, c.if-ro
 pub returns : goal.returns
 returns c =
     let a = c.args in
-    rw (eq-eqb _ 1 c.if-row-ne-LOAD_KIND.false, table_length a.row.x a.work-len a.table-len c.if-row-eq-WORK.false, c.beyond-2.ensures)
+    rw (eq-eqb _ 1 c.if-row-ne-LOAD_KIND.false, table_length a.row.x a.work_len a.table_len c.if-row-eq-WORK.false, c.beyond-2.ensures)

@@ -1,6 +1,5 @@
 -- The tests in the order of the definition; the last is that the store is before the load's end.
 use borrow.Author.Tests.{eq-eqb, ne_eqb, lt-ltb, le-ltb}
-use borrow.Author.Rules.{rules}
 use Rattle.graph_lines.proofs.addresses.row_carries.Goals as goal
 
 pub returns-then-row-ne-LOAD_KIND : goal.returns-then-row-ne-LOAD_KIND

@@ -1,6 +1,5 @@
 -- Only a load has an address.
 use borrow.Author.Tests.{eq-eqb, ne_eqb}
-use borrow.Author.Rules.{rules}
 use Rattle.graph_lines.proofs.addresses.row_misaligned.Goals as goal
 
 pub returns-then-row-ne-LOAD_KIND : goal.returns-then-row-ne-LOAD_KIND

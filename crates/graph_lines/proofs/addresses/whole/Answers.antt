@@ -1,7 +1,6 @@
 -- Each width by itself.
 use native.Mathlib.Nat.{div-one}
 use mathlib.Core.Path.{sym}
-use borrow.Author.Rules.{rules}
 use Rattle.graph_lines.proofs.addresses.whole.Goals as goal
 
 pub returns-in-One : goal.returns-in-One

@@ -1,14 +1,7 @@
-use Prim.Native.Nat.{ℕ, ◌-◌, ◌≤◌}
-use mathlib.Core.Bool.{Bool, ◌||◌}
 use native.Mathlib.Omega.{arith}
-use borrow.Author.Rules.{rules}
-use lib.Dec.{eqb, leb}
-use Rattle.rules.specs.Limits.{bare_most}
-use Rattle.rules.specs.Frames.{shift_kind}
 use Rattle.rules.specs.Checks.{bare_check}
-use Rattle.rules.specs.declared.sheet.Row.{Row}
-use Rattle.theory.proofs.Firsts.{Passed, passed_none}
-use Rattle.graph_lines.proofs.LineLaws.{row_judged, row_passes, row_refuses, rows_pass}
+use Rattle.theory.proofs.Firsts.{passed_none}
+use Rattle.graph_lines.proofs.LineLaws.{row_passes, row_refuses, rows_pass}
 use Rattle.graph_lines.proofs.rows.bare.Invariants.{wrong}
 use Rattle.graph_lines.proofs.rows.bare.Goals as goal
 

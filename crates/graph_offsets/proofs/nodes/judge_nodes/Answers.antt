@@ -1,13 +1,11 @@
-use Prim.Native.Nat.{◌+◌, ◌-◌, ◌≤◌}
-use mathlib.Core.Path.{◌≡◌, refl, ◌∙◌}
+use Prim.Native.Nat.{◌+◌}
+use mathlib.Core.Path.{refl, ◌∙◌}
 use native.Mathlib.Omega.{arith}
-use borrow.Author.Rules.{rules}
-use lib.ListN.{length, length-set}
-use Rattle.rules.specs.Limits.{nodes_most}
+use lib.ListN.{length-set}
 use Rattle.rules.specs.Trees.{node_at}
 use Rattle.graph.specs.Links.{left_in}
 use Rattle.graph.proofs.LinkLaws.{linked_lower}
-use Rattle.graph_offsets.proofs.JudgeLaws.{NodesSo, nodes_none, node_broken, node_kept, nodes_kept}
+use Rattle.graph_offsets.proofs.JudgeLaws.{nodes_none, node_broken, node_kept, nodes_kept}
 use Rattle.graph_offsets.proofs.nodes.judge_nodes.Goals as goal
 
 pub loop-k-init : goal.loop-k-init
@@ -16,8 +14,12 @@ loop-k-init c = (omega arith, refl, nodes_none _ _ _)
 pub judge_node-found-requires : goal.judge_node-found-requires
 judge_node-found-requires c =
     let l = c.loop-k in
-    let linked = rw (← c.left_inputs-lefts.ensures) at c.requires.1 in
-    (omega arith, (linked_lower (node_at c.args.nodes.now) (left_in c.left_inputs-lefts.result) c.args.count (l.k + 1) (omega arith) linked, l.invariant.2.known))
+    let linked = rw (← c.left_inputs-lefts.ensures) at c.requires.linked in
+    record {
+      k_lt_nodes_most = omega arith;
+      linked = linked_lower (node_at c.args.nodes.now) (left_in c.left_inputs-lefts.result) c.args.count (l.k + 1) (omega arith) linked;
+      known = l.invariant.2.known;
+    }
 
 pub returns-in-Broken : goal.returns-in-Broken
 returns-in-Broken c =
@@ -39,4 +41,4 @@ loop-k-preserved c =
 pub returns : goal.returns
 returns c =
     let l = c.loop-k in
-    nodes_kept c.args.nodes.now c.args.count l.k l.records l.root l.invariant.2 c.requires.0.0 (omega arith)
+    nodes_kept c.args.nodes.now c.args.count l.k l.records l.root l.invariant.2 c.requires.count_nonzero.0 (omega arith)

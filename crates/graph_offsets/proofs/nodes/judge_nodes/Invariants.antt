@@ -1,14 +1,9 @@
 -- The nodes so far keep their rules, and their offsets are known (JudgeLaws).
-use Prim.Native.Nat.{◌+◌, ◌-◌, ◌≤◌}
-use mathlib.Core.Path.{◌≡◌, refl, ◌∙◌}
-use native.Mathlib.Omega.{arith}
-use borrow.Author.Rules.{rules}
-use lib.ListN.{length, length-set}
+use Prim.Native.Nat.{◌-◌, ◌≤◌}
+use mathlib.Core.Path.{◌≡◌}
+use lib.ListN.{length}
 use Rattle.rules.specs.Limits.{nodes_most}
-use Rattle.rules.specs.Trees.{node_at}
-use Rattle.graph.specs.Links.{left_in}
-use Rattle.graph.proofs.LinkLaws.{linked_lower}
-use Rattle.graph_offsets.proofs.JudgeLaws.{NodesSo, nodes_none, node_broken, node_kept, nodes_kept}
+use Rattle.graph_offsets.proofs.JudgeLaws.{NodesSo}
 use Rattle.graph_offsets.proofs.nodes.judge_nodes.Given as goal
 
 abbrev pub invariant-loop-k : goal.invariant-loop-k

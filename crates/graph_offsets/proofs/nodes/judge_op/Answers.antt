@@ -1,6 +1,5 @@
 -- By whether the inputs agree.
 use mathlib.Core.Path.{sym, ◌∙◌}
-use borrow.Author.Rules.{rules}
 use Rattle.graph_offsets.proofs.nodes.judge_op.Goals as goal
 
 pub returns-then-agree : goal.returns-then-agree

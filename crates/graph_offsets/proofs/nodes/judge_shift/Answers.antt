@@ -1,6 +1,5 @@
 -- By whether the child is where it is moved from.
 use mathlib.Core.Path.{sym, ◌∙◌}
-use borrow.Author.Rules.{rules}
 use Rattle.graph_offsets.proofs.nodes.judge_shift.Goals as goal
 
 pub returns-then-is_at : goal.returns-then-is_at

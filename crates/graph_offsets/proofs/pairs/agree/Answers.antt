@@ -1,5 +1,4 @@
 -- Each pair of cases.
-use borrow.Author.Rules.{rules}
 use Rattle.graph_offsets.proofs.pairs.agree.Goals as goal
 
 pub returns-in-At-b : goal.returns-in-At-b

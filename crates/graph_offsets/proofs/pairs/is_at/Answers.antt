@@ -1,5 +1,4 @@
 -- Each case.
-use borrow.Author.Rules.{rules}
 use Rattle.graph_offsets.proofs.pairs.is_at.Goals as goal
 
 pub returns-in-At : goal.returns-in-At

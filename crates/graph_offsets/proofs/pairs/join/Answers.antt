@@ -1,5 +1,4 @@
 -- Each case.
-use borrow.Author.Rules.{rules}
 use Rattle.graph_offsets.proofs.pairs.join.Goals as goal
 
 pub returns-in-Undefined : goal.returns-in-Undefined

@@ -1,14 +1,13 @@
-use Prim.Native.Nat.{◌+◌, ◌-◌, ◌%◌, ◌≤◌}
+use Prim.Native.Nat.{◌+◌, ◌%◌}
 use mathlib.Core.Path.{◌≡◌, sym, ◌∙◌}
-use mathlib.Core.Logic.{⊎_elim}
 use mathlib.Core.List.{[], ◌∷◌}
 use native.Mathlib.Omega.{arith}
 use lib.ListN.{length, length-set}
-use borrow.Author.Rules.{rules}
 use Rattle.rules.specs.Trees.{node_at}
 use Rattle.placing_targets.specs.Met.{met_in, Counted}
 use Rattle.placing_targets.proofs.MetLaws.{counted_store, counted_most, load_counted, other_counted}
 use Rattle.placing_targets.proofs.dominant.count_met.Goals as goal
+use Rattle.placing_targets.proofs.dominant.count_met.Goals.{in-Load, in_default}
 
 pub loop-k-init : goal.loop-k-init
 loop-k-init c =
@@ -30,12 +29,16 @@ loop-k-preserved c =
     let node = node_at a.nodes.now in
     let n = c.node_at-node.ensures in
     let found : (length c.match-node.counts ≡ 16) × Counted 16 (met_in 16 node (a.c.0 ∷ []) (l.k + 1)) c.match-node.counts =
-    ⊎_elim
-    (λ w.
-    rw w.4
-    (simp length-set l.invariant.1, load_counted node (a.c.0 ∷ []) l.k l.counts _ (sym n ∙ w.1.given.1) l.invariant.1 l.invariant.2))
-    (λ w. rw w.1 (l.invariant.1, other_counted node (a.c.0 ∷ []) l.k l.counts _ (sym n) w.0.keys2 l.invariant.2))
-    c.match-node.branch in
+    elim c.match-node.branch [
+      | in-Load w ↦
+          rw w.counts-is (
+            simp length-set l.invariant.1,
+            load_counted node (a.c.0 ∷ []) l.k l.counts w.in-Load.load (sym n ∙ w.in-Load.is) l.invariant.1 l.invariant.2,
+          )
+      | in_default w ↦
+          rw w.counts-is
+          (l.invariant.1, other_counted node (a.c.0 ∷ []) l.k l.counts _ (sym n) w.in_default.not-Load l.invariant.2)
+    ] in
     (omega arith, found.0, found.1)
 
 pub returns : goal.returns

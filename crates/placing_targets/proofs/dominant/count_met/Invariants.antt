@@ -1,14 +1,10 @@
 -- The invariant: the counts are of the store and of the first k rows.
-use Prim.Native.Nat.{◌+◌, ◌-◌, ◌%◌, ◌≤◌}
-use mathlib.Core.Path.{◌≡◌, sym, ◌∙◌}
-use mathlib.Core.Logic.{⊎_elim}
+use Prim.Native.Nat.{◌-◌, ◌≤◌}
+use mathlib.Core.Path.{◌≡◌}
 use mathlib.Core.List.{[], ◌∷◌}
-use native.Mathlib.Omega.{arith}
-use lib.ListN.{length, length-set}
-use borrow.Author.Rules.{rules}
+use lib.ListN.{length}
 use Rattle.rules.specs.Trees.{node_at}
 use Rattle.placing_targets.specs.Met.{met_in, Counted}
-use Rattle.placing_targets.proofs.MetLaws.{counted_store, counted_most, load_counted, other_counted}
 use Rattle.placing_targets.proofs.dominant.count_met.Given as goal
 
 abbrev pub invariant-loop-k : goal.invariant-loop-k

@@ -2,7 +2,6 @@
 use mathlib.Core.Path.{ap}
 use Rattle.rules.specs.Trees.{bytes, node_at}
 use Rattle.placing_targets.proofs.MetLaws.{counted_dominant}
-use borrow.Author.Rules.{rules}
 use Rattle.placing_targets.proofs.dominant.dominant.Goals as goal
 
 pub returns : goal.returns

@@ -1,10 +1,10 @@
-use Prim.Native.Nat.{◌≤◌, ◌-◌, ◌+◌}
+use Prim.Native.Nat.{◌+◌}
 use mathlib.Core.Path.{◌≡◌}
-use mathlib.Core.Logic.{⊎_elim}
 use native.Mathlib.Omega.{arith}
 use Rattle.placing_targets.specs.Met.{count_at, Largest}
 use Rattle.placing_targets.proofs.MetLaws.{largest_first, largest_kept, largest_new}
 use Rattle.placing_targets.proofs.dominant.most_met.Goals as goal
+use Rattle.placing_targets.proofs.dominant.most_met.Goals.{then-counts-most, else-counts-most}
 
 pub loop-x-init : goal.loop-x-init
 loop-x-init c = (omega arith, largest_first (count_at c.args.counts.now))
@@ -20,10 +20,10 @@ loop-x-preserved c =
     let l = c.loop-x in
     let counts = c.args.counts.now in
     let found : Largest (count_at counts) (l.x + 1) c.if-counts-most.most =
-    ⊎_elim
-    (λ w. rw w.1 (largest_new (count_at counts) l.x l.most l.invariant.1 w.0.taken))
-    (λ w. rw w.1 (largest_kept (count_at counts) l.x l.most l.invariant.1 w.0.left))
-    c.if-counts-most.branch in
+    elim c.if-counts-most.branch [
+      | then-counts-most w ↦ rw w.most-is (largest_new (count_at counts) l.x l.most l.invariant.1 w.if-counts-most.true)
+      | else-counts-most w ↦ rw w.most-is (largest_kept (count_at counts) l.x l.most l.invariant.1 w.if-counts-most.false)
+    ] in
     (omega arith, found)
 
 pub returns : goal.returns

@@ -1,10 +1,6 @@
 -- The invariant: of the offsets so far the one kept is met most often, and is the smallest that is.
-use Prim.Native.Nat.{◌≤◌, ◌-◌, ◌+◌}
-use mathlib.Core.Path.{◌≡◌}
-use mathlib.Core.Logic.{⊎_elim}
-use native.Mathlib.Omega.{arith}
+use Prim.Native.Nat.{◌≤◌, ◌-◌}
 use Rattle.placing_targets.specs.Met.{count_at, Largest}
-use Rattle.placing_targets.proofs.MetLaws.{largest_first, largest_kept, largest_new}
 use Rattle.placing_targets.proofs.dominant.most_met.Given as goal
 
 abbrev pub invariant-loop-x : goal.invariant-loop-x

@@ -1,10 +1,7 @@
-use borrow.Author.Rules.{rules}
 use native.Mathlib.Omega.{arith}
 use mathlib.Core.Path.{◌≡◌, refl, sym, ◌∙◌}
-use mathlib.Core.Bool.{false}
-use Prim.Native.Nat.{◌+◌, ◌-◌, ◌*◌, ◌≤◌}
+use Prim.Native.Nat.{◌+◌, ◌*◌}
 use Rattle.rules.specs.Digits.{spelled}
-use Rattle.sheet_frames.specs.Numbers.{short}
 use Rattle.sheet_frames.proofs.DigitLaws.{short_none, short_more, short_here, spelled_more, spelled_most, spelled_small, number_is, number_broken, spelt, broken}
 use Rattle.sheet_frames.proofs.digits.number.Goals as goal
 

@@ -4,7 +4,6 @@ use mathlib.Core.Path.{sym, ◌∙◌}
 use Prim.Native.Nat.{◌+◌}
 use lib.ListN.{get_or}
 use Rattle.sheet_frames.proofs.DigitLaws.{Digit, digit_is, no_digit, two, first_broken, second_broken, spelled_two, number_is, number_broken}
-use borrow.Author.Rules.{rules}
 use Rattle.sheet_frames.proofs.digits.two_digits.Goals as goal
 
 pub returns-then-high-eq-NO_DIGIT : goal.returns-then-high-eq-NO_DIGIT

@@ -1,0 +1,9 @@
+-- The sum of two numbers that were cut.
+use Rattle.std.proofs.Common.{◌∙◌}
+use Rattle.translating_rows.proofs.PutLaws.{cut_moved}
+use Rattle.translating_rows.proofs.moved.Goals as goal
+
+pub returns : goal.returns
+returns c =
+    let a = c.args in
+    c.low_bits.ensures ∙ cut_moved a.address.0 a.blocks.0
