@@ -46,5 +46,5 @@ returns-in-8 c =
 
 pub returns-in_default : goal.returns-in_default
 returns-in_default c =
-    let r = c.in_default.in_default-own.rest in
-    record { result_value = no_width_fault c.args.head r.0.0.0.1 r.0.0.1 r.0.1 r.1; widens = λ e. not_done _ e }
+    let not_a_width = no_width_fault c.args.head (λ e. omega arith) (λ e. omega arith) (λ e. omega arith) (λ e. omega arith) in
+    record { result_value = not_a_width; widens = λ e. not_done _ e }
