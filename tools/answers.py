@@ -4,7 +4,8 @@
 usage: python3 tools/answers.py NAMES.json          in the crate's folder, after rt check --generated FOLDER --old-names
 
 NAMES.json has each goal's and each step's older and today's name. A path such as `c.before.before.entry.ensures` becomes
-`c.entry-kind.ensures`. What it can't turn it says with 'left:'. A folder that begins with + (a cycle) is left as it is.
+`c.entry-kind.ensures`. What it can't turn it says with 'left:'. A cycle of one function (a folder that begins
+with +) wants its measure by hand; cycles of more functions are left as they are.
 """
 import glob
 import json
@@ -84,6 +85,9 @@ class Names:
                     return ("text", "." + arm[0] + "." + best[0], more[len(best[1]):])
             if a == q:
                 break
+        callee = self.places[q][3]
+        if callee in self.d["params"] and len(more) > 1 and more[0] in ("auto", "new") and more[1].isdigit():
+            more = [more[0], self.d["params"][callee][int(more[1])]] + more[2:]
         return ("text", "." + new, more)
 
 
@@ -169,16 +173,19 @@ def main(argv):
     dashed = {s.replace("_", "-"): s for s in source}
     for f in sorted(glob.glob("proofs/**/Proof.antt", recursive=True)):
         folder = os.path.dirname(f)
-        if "/+" in f:
-            print(f"left: {f}: a cycle")
-            continue
         mod = folder[len("proofs/"):].replace("/", ".")
         key = f"Rattle-{crate}-proofs.{mod}.Lts"
+        cycle = "/+" in f
+        if cycle:  # of one function: its measure is written by hand
+            key += "-" + mod.split("+")[1]
         if key not in names:
             print(f"left: {f}: no {key}")
             continue
         n = Names(names[key])
         text = open(f, encoding="utf-8").read()
+        if cycle:
+            text = re.sub(r": \(t : ℕ\) → [\w-]+-lts\.Need-(\S+)[^\n]*", r": tie.Need-\1", text)
+            text = re.sub(r"\.requires\.1(?!\d)", ".requires", text).replace(".requires.0", ".decreases")
         text = re.sub(r"\.([a-z]\w*(?:-\w+)+)(?![\w-])", lambda k: "." + dashed.get(k.group(1), k.group(1)), text)
         text = re.sub(r"(\.if\d*)\.taken\b", r"\1.true", text)
         text = re.sub(r"(\.if\d*)\.left\b", r"\1.false", text)
@@ -186,7 +193,7 @@ def main(argv):
         text = re.sub(r"not-(?:true|false) " + ID + r"(?:\." + ID + r")* (" + ID + r"(?:\." + ID + r")*\.(?:true|false))(?![\w.-])", r"\1", text)
         head, items = defs(text)
         said = []
-        imports = [h for h in head if h.startswith("use ") and not re.search(r"\.(Statement\.\{|Tie|Reads|Kinds|Lts)\b", h)]
+        imports = [h for h in head if h.startswith("use ") and not re.search(r"\.(Statement\.\{|Tie|Reads|Kinds|Lts)\b|\{statement\}|borrow\.Fn", h)]
         comment = [h for h in head if h.startswith("--")][:1]
         answers, inv = [], []
         left = {norm(o): (o, new, n.d["asked_at"][i][0]) for i, (o, new) in enumerate(n.needs)}
@@ -194,7 +201,7 @@ def main(argv):
             text = "\n".join(lines).rstrip()
             if name == "--":
                 continue
-            if name.endswith("_spec") or name.endswith("-spec"):
+            if name.endswith("_spec") or name.endswith("-spec") or (cycle and text.startswith("abbrev ")):
                 continue
             m = re.search(r"tie\.(Need-([^\s]+)|(invariant-|decreases-)([^\s]+))", text.split("\n")[0])
             if not m:
@@ -235,12 +242,12 @@ def main(argv):
             eq = next(i for i, l in enumerate(L) if i and (l.startswith(name + " ")))
             unf = [l for l in L[1:eq] if l.strip().startswith("unfolding")]
             body = "\n".join(L[eq:])
-            mm = re.match(re.escape(name) + r" (\S+)( \S+)? =", body)
+            mm = re.match(re.escape(name) + (r" (t c)( \S+)? =" if cycle else r" (\S+)( \S+)? ="), body)
             if not mm:
                 said.append(f"{name}: odd clause {body[:80]}")
                 continue
             rhs = body[mm.end():]
-            if rhs.strip() in ("search rules", "omega arith"):
+            if rhs.strip() == "search rules":
                 continue
             if re.match(r"enum[-_](told|known)", new):
                 continue

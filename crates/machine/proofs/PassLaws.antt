@@ -2,23 +2,19 @@
 -- cite. A run is given by where it stands and by what is left of its trace. Last, a run from its checks on.
 use Prim.Native.Nat.{ℕ, zero, suc, ◌+◌, ◌-◌, ◌≤◌, ◌<◌}
 use mathlib.Core.Path.{◌≡◌, refl, sym, ap, ◌∙◌}
-use mathlib.Core.Bool.{Bool, true, false, cond, not}
-use mathlib.Core.Logic.{inl, inr}
+use mathlib.Core.Bool.{Bool, true, false, cond}
 use mathlib.Core.List.{List, [], ◌∷◌, ◌++◌, foldl-append}
 use native.Mathlib.Omega.{arith}
 use native.Mathlib.Numerals.{add-one}
 use borrow.Author.Tests.{lt-ltb, le-ltb}
-use types.Run.{OneOf}
-use denote.Enum.Declared.{tag_of}
 use lib.ListN.{length}
 use Rattle.rules.specs.Limits.{vector_bytes}
-use Rattle.rules.specs.Answers.{Answer, DONE, WINDOW, OUT, FAULT, at, after, done, of_run}
+use Rattle.rules.specs.Answers.{Answer, DONE, WINDOW, OUT, FAULT, done, of_run}
 use Rattle.rules.specs.Machine.{State, sound, effect, instruction_at, instructions_from, Program, Timed, in_pass, passes, trace, Standing, standing, next, step, runs, blank, start}
 use Rattle.rules.specs.Tables.{program_in}
 use Rattle.rules.specs.Calls.{WithWork, start_answer, started, ended, running}
 use Rattle.rules.specs.declared.answers.RunAnswer.{RunAnswer}
 use Rattle.rules.specs.declared.answers.RunAnswer.TheVariants as Run
-use Rattle.rules.specs.contracts.answers.RunAnswer.{the_type}
 use Rattle.rules.specs.declared.program.Instruction.{Instruction}
 use Rattle.rules.specs.declared.program.ProgramHead.{ProgramHead}
 use Rattle.machine_kinds.specs.Trying.{Tried, tried, state, of_state, try_as}
@@ -141,15 +137,9 @@ module _ (D : ℕ) (table : List ℕ) (budget : ℕ) where
 
   -- ---- one part after another
 
-  -- the tag of an answer that is not Done, as a match says it
+  -- an answer that is not Done, as a match says it
   abbrev pub Other : RunAnswer → Type 0
-  Other r = OneOf (1 ∷ 2 ∷ 3 ∷ 4 ∷ []) (tag_of the_type r)
-
-  above : (x : ℕ) → OneOf (1 ∷ 2 ∷ 3 ∷ 4 ∷ []) x → 0 < x
-  above x (inl e) = omega arith
-  above x (inr (inl e)) = omega arith
-  above x (inr (inr (inl e))) = omega arith
-  above x (inr (inr (inr e))) = omega arith
+  Other r = (k : ℕ) → r ≡ Run.Done k → ⊥
 
   module _ (m : Standing) (ts us : List Timed) (regs : List (List ℕ)) (work : List ℕ) where
     -- a part that is done: the run goes on from there
@@ -160,10 +150,10 @@ module _ (D : ℕ) (table : List ℕ) (budget : ℕ) where
     -- a part that has stopped: so has the run
     pub part_stopped : (r : RunAnswer) → Other r → stood r regs work ≡ run m ts
         → stood r regs work ≡ run m (ts ++ us)
-    part_stopped r other e = sym (run_append m ts us ∙ rw (← e) (go r (above (tag_of the_type r) other)))
+    part_stopped r other e = sym (run_append m ts us ∙ rw (← e) (go r other))
       where
-        go : (r : RunAnswer) → 0 < tag_of the_type r → run (stood r regs work) us ≡ stood r regs work
-        go (Run.Done k) h = absurd (omega arith)
+        go : (r : RunAnswer) → Other r → run (stood r regs work) us ≡ stood r regs work
+        go (Run.Done k) h = absurd (h k refl)
         go Run.Room h = run_stopped 0 0 (state regs work) us
         go (Run.Window p) h = run_stopped 5 0 (state regs work) us
         go (Run.Out k) h = run_stopped 11 k (state regs work) us

@@ -1,5 +1,6 @@
 // The vector machine (document 01, "Vector code"): it runs any program that anybody hands it, and gives one fixed answer.
 #![tactic(auto)]
+
 mod elements;
 mod instructions;
 mod passes;

@@ -1,6 +1,7 @@
 // An instruction of each kind but the splat, in one pass (document 01, "Vector code"): load, the operations, vshiftpair, vsplice,
 // store. False is a FAULT, and then nothing is changed.
 #![tactic(auto)]
+
 ghost use Rattle.std.specs.Prelude.{◌≡◌, [], ◌≤◌, ◌<◌};
 ghost use Rattle.rules.specs.Limits.{registers};
 ghost use Rattle.rules.specs.Units.{width_bytes};

@@ -1,12 +1,8 @@
 -- What the whole call gives and leaves, by its answer; and what done says of the sheet and of the tables lent.
-use Prim.Native.Nat.{ℕ, ◌*◌, ◌≤◌, ◌<◌}
-use mathlib.Core.Path.{◌≡◌, sym, ap}
+use Prim.Native.Nat.{ℕ, ◌*◌, ◌≤◌}
+use mathlib.Core.Path.{◌≡◌, refl, sym, ap}
 use mathlib.Core.Bool.{Bool, ◌||◌}
-use mathlib.Core.Logic.{inl, inr}
-use mathlib.Core.List.{List, [], ◌∷◌}
-use native.Mathlib.Omega.{arith}
-use types.Run.{OneOf}
-use denote.Enum.Declared.{tag_of}
+use mathlib.Core.List.{List, []}
 use borrow.Author.Tests.{ltb-false}
 use lib.ListN.{length}
 use Rattle.rules.specs.Limits.{vector_bytes, nodes_most, head_entries, row_entries}
@@ -16,7 +12,6 @@ use Rattle.rules.specs.Checks.{head_short, nodes_short}
 use Rattle.rules.specs.Calls.{place_answer, placed_graph, placing}
 use Rattle.rules.specs.declared.answers.PlaceAnswer.{PlaceAnswer}
 use Rattle.rules.specs.declared.answers.PlaceAnswer.TheVariants as Place
-use Rattle.rules.specs.contracts.answers.PlaceAnswer.{the_type}
 use Rattle.theory.proofs.FormLaws.{passes_formed, each_check_done, refuse_done, neither}
 use Rattle.placing.specs.Handing.{BareSheet, sheet_given}
 
@@ -55,26 +50,14 @@ module _ (rule : ℕ) (head nodes placed_head placed_nodes : List ℕ) where
   unfolding placing
   done_leaves h n e p q = rw (← e, p, q)
 
-  -- the tag of a refusal that is not ROOM, as a match says it
-  abbrev Refusal : PlaceAnswer → Type 0
-  Refusal r = OneOf (2 ∷ 3 ∷ 4 ∷ 5 ∷ []) (tag_of the_type r)
-
-  pub refusal_leaves : (r : PlaceAnswer) (h n : List ℕ) → Refusal r → of_place r ≡ found → h ≡ padded (length placed_head) []
-      → n ≡ padded (length placed_nodes) [] → sheet_given r h n ≡ placing vector_bytes rule head nodes placed_head placed_nodes
+  -- a refusal that is not ROOM
+  pub refusal_leaves : (r : PlaceAnswer) (h n : List ℕ) → (r ≡ Place.Room → ⊥) → (r ≡ Place.Done → ⊥) → of_place r ≡ found
+      → h ≡ padded (length placed_head) [] → n ≡ padded (length placed_nodes) []
+      → sheet_given r h n ≡ placing vector_bytes rule head nodes placed_head placed_nodes
   unfolding placing
-  refusal_leaves r h n other e p q = go r (above (tag_of the_type r) other) e
-    where
-      above : (x : ℕ) → OneOf (2 ∷ 3 ∷ 4 ∷ 5 ∷ []) x → 1 < x
-      above x (inl s) = omega arith
-      above x (inr (inl s)) = omega arith
-      above x (inr (inr (inl s))) = omega arith
-      above x (inr (inr (inr s))) = omega arith
-
-      go : (r : PlaceAnswer) → 1 < tag_of the_type r → of_place r ≡ found
-          → sheet_given r h n ≡ placing vector_bytes rule head nodes placed_head placed_nodes
-      go Place.Done l e = absurd (omega arith)
-      go Place.Room l e = absurd (omega arith)
-      go (Place.Range k) l e = rw (← e, p, q)
-      go (Place.Shape k) l e = rw (← e, p, q)
-      go (Place.Bare k) l e = rw (← e, p, q)
-      go (Place.Align k) l e = rw (← e, p, q)
+  refusal_leaves Place.Done h n room done e p q = absurd (done refl)
+  refusal_leaves Place.Room h n room done e p q = absurd (room refl)
+  refusal_leaves (Place.Range k) h n room done e p q = rw (← e, p, q)
+  refusal_leaves (Place.Shape k) h n room done e p q = rw (← e, p, q)
+  refusal_leaves (Place.Bare k) h n room done e p q = rw (← e, p, q)
+  refusal_leaves (Place.Align k) h n room done e p q = rw (← e, p, q)

@@ -1,5 +1,6 @@
 // Placing (document 01, "Placing"): shifts put into a bare sheet by one of four rules, and the placed graph handed back.
 #![tactic(auto)]
+
 mod placed;
 mod records;
 mod rows;

@@ -6,7 +6,7 @@ use mathlib.Core.List.{List}
 use native.Mathlib.Nat.{le_trans, mul-le-mul_right, mod-eq_of_lt}
 use native.Mathlib.Omega.{arith}
 use lib.ListN.{get_or}
-use Rattle.rules.specs.Elements.{modulus, element, operate}
+use Rattle.rules.specs.Elements.{modulus, operate}
 use Rattle.rules.specs.Trees.{node_at}
 use Rattle.rules.specs.PlainLoop.{window, value}
 use Rattle.rules.specs.declared.nodes.LoadAt.{LoadAt}

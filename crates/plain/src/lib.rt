@@ -1,5 +1,6 @@
 // The plain loop (document 01, "Plain loop"): what a loop sheet means, done element by element.
 #![tactic(auto)]
+
 mod looping;
 mod values;
 mod windows;

@@ -4,18 +4,15 @@ use mathlib.Core.Path.{◌≡◌, refl, sym, ap, ◌∙◌}
 use mathlib.Core.Bool.{Bool, false, ◌||◌}
 use mathlib.Core.List.{List, [], ◌∷◌}
 use native.Mathlib.Omega.{arith}
-use types.Run.{OneOf, miss}
-use denote.Enum.Declared.{tag_of}
 use lib.ListN.{length, replicate}
 use Rattle.rules.specs.Limits.{vector_bytes}
-use Rattle.rules.specs.Answers.{Answer, DONE, ROOM, at, done, first, of_translate, of_plan}
+use Rattle.rules.specs.Answers.{Answer, DONE, done, first, of_translate, of_plan}
 use Rattle.rules.specs.Tables.{Graph, graph_of, head_of, padded, no_program}
 use Rattle.rules.specs.Checks.{head_short, nodes_short, room_check, rule_check, form_check, bare_check, align_check}
 use Rattle.rules.specs.Calls.{WithSheet, WithProgram, place_answer, placed_graph, placing, graph_program, program_left, bare_checks, plan_answer, planning, translating}
 use Rattle.rules.specs.declared.answers.PlaceAnswer.{PlaceAnswer}
 use Rattle.rules.specs.declared.answers.PlanAnswer.{PlanAnswer}
 use Rattle.rules.specs.declared.answers.PlanAnswer.TheVariants as Plan
-use Rattle.rules.specs.contracts.answers.PlanAnswer.{the_type}
 use Rattle.theory.proofs.FormLaws.{each_check_done, refuse_done}
 use Rattle.theory.proofs.Checked.{sixteen}
 use Rattle.theory.proofs.Demands.{tables_roomy, planned_unrefused}
@@ -98,15 +95,12 @@ module _ (rule : ℕ) (head nodes : List ℕ) (work_len table_len : ℕ) (prolog
 
 -- ---- a refusal
 
--- the tags of answers that are not Done, and of those that are not Room, as a match says it
-abbrev not_done : List ℕ
-not_done = 1 ∷ 2 ∷ 3 ∷ 4 ∷ 5 ∷ 6 ∷ 7 ∷ 8 ∷ 9 ∷ 10 ∷ []
+-- an answer that is not Done, and one that is not Room, as a match says it
+abbrev NotDone : PlanAnswer → Type 0
+NotDone a = a ≡ Plan.Done → ⊥
 
-abbrev not_room : List ℕ
-not_room = 0 ∷ 2 ∷ 3 ∷ 4 ∷ 5 ∷ 6 ∷ 7 ∷ 8 ∷ 9 ∷ 10 ∷ []
-
-abbrev Tagged : List ℕ → PlanAnswer → Type 0
-Tagged tags a = OneOf tags (tag_of the_type a)
+abbrev NotRoom : PlanAnswer → Type 0
+NotRoom a = a ≡ Plan.Room → ⊥
 
 module _ (rule : ℕ) (head nodes : List ℕ) (work_len table_len : ℕ) (prologue body epilogue : List ℕ) where
   -- the answer of the whole call
@@ -125,17 +119,17 @@ module _ (rule : ℕ) (head nodes : List ℕ) (work_len table_len : ℕ) (prolog
   abbrev cleared : List ℕ → List ℕ
   cleared section = padded (length section) []
 
-  pub refusal_leaves : (a : PlanAnswer) → Answers a → Tagged not_done a → Tagged not_room a
+  pub refusal_leaves : (a : PlanAnswer) → Answers a → NotDone a → NotRoom a
       → plan_given (record { answer = a; head = no_program }) (cleared prologue) (cleared body) (cleared epilogue)
       ≡ planning vector_bytes rule head nodes work_len table_len prologue body epilogue
   unfolding planning
-  refusal_leaves a e not_done not-room = rw (answer_is a e) (go a not_done not-room)
+  refusal_leaves a e not_done not_room = rw (answer_is a e) (go a not_done not_room)
     where
-      go : (a : PlanAnswer) → Tagged not_done a → Tagged not_room a
+      go : (a : PlanAnswer) → NotDone a → NotRoom a
           → plan_given (record { answer = a; head = no_program }) (cleared prologue) (cleared body) (cleared epilogue)
           ≡ program_left (of_plan a) (graph_of head nodes).D (graph_program vector_bytes (placed_graph vector_bytes rule (graph_of head nodes))) prologue body epilogue
-      go Plan.Done d r = absurd (miss not_done 0 tt d)
-      go Plan.Room d r = absurd (miss not_room 1 tt r)
+      go Plan.Done d r = absurd (d refl)
+      go Plan.Room d r = absurd (r refl)
       go (Plan.Range k) d r = refl
       go (Plan.Shape k) d r = refl
       go (Plan.Bare k) d r = refl

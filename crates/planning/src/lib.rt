@@ -1,6 +1,7 @@
 // The one-step call: a bare sheet is placed by a rule and translated at once. It is judged first, 5 to 9 on the bare sheet and its
 // lines; then it is placed into tables of the call's own, and those are translated.
 #![tactic(auto)]
+
 ghost use Rattle.std.specs.Prelude.{◌≡◌};
 ghost use Rattle.rules.specs.Limits.{vector_bytes};
 ghost use Rattle.rules.specs.Calls.{planning};

@@ -42,6 +42,7 @@ fn node_line(width: Width, here: Cursor, f: Fields) -> LineStep
 }
 
 // The end frame; text after it is at fault on the next line.
+#[tactic(auto, unfolding(rules::specs::Reading::end_line))]
 fn end_line(text: &[u8], here: Cursor, f: Fields) -> LineStep
     requires { Reached here }
     ensures { result ≡ end_line text.now here f }

@@ -7,31 +7,12 @@ use native.Mathlib.Nat.{zero-add, add-zero, suc-add, pow-suc, pow-le-pow_right}
 use native.Mathlib.Omega.{arith}
 use lib.ListN.{get_or}
 use lib.Dec.{ltb, leb, lit<}
-use borrow.Author.Tests.{leb-true, ltb-true, ltb-false, lt-ltb, le-ltb, lt-leb, le-leb}
+use borrow.Author.Tests.{leb-true, ltb-true, ltb-false, lt-ltb, le-ltb}
 use Rattle.rules.specs.Digits.{is_digit, digit_of, digit_run, spelled}
 use Rattle.sheet_frames.specs.Numbers.{digit_or, short, number_at}
 use Rattle.sheet_frames.specs.declared.digits.Spelling.TheVariants.{Number, Broken}
 
 -- ---- one byte
-
-pub low_digit : (b : ℕ) → 48 ≤ b → b ≤ 57 → b - 48 ≡ digit_or b
-unfolding digit_or is_digit digit_of
-low_digit b h l = rw (le-ltb b 48 h, le-leb b 57 l)
-
-pub high_digit : (b : ℕ) → 65 ≤ b → b ≤ 70 → b - 65 + 10 ≡ digit_or b
-unfolding digit_or is_digit digit_of
-high_digit b h l = rw (le-ltb b 48 (omega arith), lt-leb b 57 (omega arith), le-ltb b 65 h, le-leb b 70 l) (omega arith)
-
--- a byte in neither range
-pub other_byte : (b : ℕ) → (48 ≤ b → 57 < b) → (65 ≤ b → 70 < b) → 16 ≡ digit_or b
-unfolding digit_or is_digit
-other_byte b low high = go (ltb b 48) refl (ltb b 65) refl
-  where
-    go : (p : Bool) → ltb b 48 ≡ p → (q : Bool) → ltb b 65 ≡ q
-        → 16 ≡ cond (cond p false (cond (leb b 57) true (cond q false (leb b 70)))) (digit_of b) 16
-    go true e q f = refl
-    go false e true f = rw (lt-leb b 57 (low (ltb-false b 48 e)))
-    go false e false f = rw (lt-leb b 57 (low (ltb-false b 48 e)), lt-leb b 70 (high (ltb-false b 65 f)))
 
 digit_most : (b : ℕ) → digit_of b < 16
 unfolding digit_of

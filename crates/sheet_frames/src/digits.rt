@@ -21,6 +21,7 @@ pub(crate) enum Spelling {
 }
 
 // A range is two tests in a row, which the compiler makes one of.
+#[tactic(auto, unfolding(crate::specs::Numbers::digit_or, rules::specs::Digits::is_digit, rules::specs::Digits::digit_of))]
 pub(crate) fn digit(b: u8) -> u64
     ensures { result ≡ digit_or b }
 {

@@ -1,6 +1,7 @@
 // vshiftpair, vsplice and splat (document 01, "Vector code"): the bytes of two vectors reordered, and one value in every element.
 // Vectors go by value, and every function answers for every argument.
 #![tactic(auto)]
+
 ghost use Rattle.std.specs.Prelude.{◌≡◌, ◌+◌, ◌-◌, ◌*◌, ◌/◌, ◌%◌, ◌^◌, ◌<◌};
 ghost use Rattle.rules.specs.Limits.{vector_bytes};
 ghost use Rattle.rules.specs.Units.{width_bytes};

@@ -3,6 +3,7 @@
 // vector instructions of it. It is found in two threes: of six tests for equality in a row the compiler would make a jump
 // through a table, which costs more than a few tests.
 #![tactic(auto)]
+
 ghost use Rattle.std.specs.Prelude.{◌≡◌};
 ghost use Rattle.rules.specs.Limits.{vector_bytes};
 ghost use Rattle.rules.specs.Vectors.{vop};

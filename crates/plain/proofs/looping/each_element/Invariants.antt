@@ -1,0 +1,13 @@
+-- `each_element`: the invariant is that work stands as the definition has it after i elements; the measure is what is left of n.
+use Prim.Native.Nat.{◌-◌}
+use Rattle.rules.specs.Units.{width_bytes}
+use Rattle.rules.specs.Trees.{node_at, tree_at}
+use Rattle.plain.proofs.LoopLaws.{After}
+use Rattle.plain.proofs.looping.each_element.Given as goal
+
+abbrev pub invariant-loop-i : goal.invariant-loop-i
+invariant-loop-i l =
+    After (width_bytes l.width) l.store.0 l.elements (tree_at (node_at l.nodes) l.root) l.initial.work l.table l.i l.work
+
+abbrev pub decreases-loop-i : goal.decreases-loop-i
+decreases-loop-i l = l.elements - l.i

@@ -1,0 +1,10 @@
+-- `store_four`: the lower half of the bytes, then the upper.
+use native.Mathlib.Omega.{arith}
+use mathlib.Core.Path.{◌∙◌}
+use Rattle.plain.proofs.WindowLaws.{stores_join}
+use Rattle.plain.proofs.windows.store_four.Goals as goal
+
+pub returns : goal.returns
+returns c =
+    let a = c.args in
+    c.store_two-2.ensures ∙ rw c.store_two.ensures (stores_join a.window.now a.at 2 2 a.value (omega arith))

@@ -1,0 +1,9 @@
+-- No more is filled than the buffer takes; each read that gives something leaves less to fill.
+use Rattle.std.proofs.Common.{◌-◌, ◌≤◌, length}
+use Rattle.streams.proofs.read_full.Given as goal
+
+abbrev pub invariant-loop-filled : goal.invariant-loop-filled
+invariant-loop-filled g l = l.filled ≤ length l.buffer
+
+abbrev pub decreases-loop-filled : goal.decreases-loop-filled
+decreases-loop-filled g l = length l.initial.buffer - l.filled
