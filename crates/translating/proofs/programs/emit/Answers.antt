@@ -35,4 +35,4 @@ returns c =
     let h = a.header in
     emitted_whole vector_bytes (width_bytes h.width) h.elements h.store.0 (tree_at (node_at a.nodes.now) (h.count - 1))
     c.width_bytes.ensures c.split_stream-split.ensures.full_value c.split_stream-split.ensures.rest_value a.prologue.now a.body.now a.epilogue.now
-    c.if-elements-eq0.false c.if-full-eq0.false c.put_prologue.ensures c.put_body.ensures c.put_epilogue.ensures
+    c.if-elements-eq0.false (search rules) c.put_prologue.ensures c.put_body.ensures c.put_epilogue.ensures
