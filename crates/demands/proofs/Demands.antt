@@ -45,60 +45,60 @@ use Rattle.planning.proofs.Outcomes as planner
 
 pub reading_fixed : (text head nodes : List ℕ) (r s : ReadAnswer) (h n k m : List ℕ) → sheet.Allowed text head nodes r h n
     → sheet.Allowed text head nodes s k m → (r ≡ s) × (h ≡ k) × (n ≡ m)
-reading_fixed = sheet.one-outcome
+reading_fixed = sheet.one_outcome
 
 pub checking_fixed : (head nodes : List ℕ) (r s : CheckAnswer) → graph-call.Allowed head nodes r → graph-call.Allowed head nodes s → r ≡ s
-checking_fixed = graph-call.one-outcome
+checking_fixed = graph-call.one_outcome
 
 pub offset_check_fixed : (head nodes : List ℕ) (r s : OffsetAnswer) → offsets.Allowed head nodes r → offsets.Allowed head nodes s → r ≡ s
-offset_check_fixed = offsets.one-outcome
+offset_check_fixed = offsets.one_outcome
 
 pub looping_fixed : (head nodes work table : List ℕ) (r s : PlainAnswer) (v w : List ℕ) → plain.Allowed head nodes work table r v
     → plain.Allowed head nodes work table s w → (r ≡ s) × (v ≡ w)
-looping_fixed = plain.one-outcome
+looping_fixed = plain.one_outcome
 
 pub placing_fixed : (rule : ℕ) (head nodes placed_head placed_nodes : List ℕ) (r s : PlaceAnswer) (h n i k : List ℕ)
     → placing-call.Allowed rule head nodes placed_head placed_nodes r h n
     → placing-call.Allowed rule head nodes placed_head placed_nodes s i k → (r ≡ s) × (h ≡ i) × (n ≡ k)
-placing_fixed = placing-call.one-outcome
+placing_fixed = placing-call.one_outcome
 
 pub translating_fixed : (head nodes : List ℕ) (work_len table_len : ℕ) (prologue body epilogue : List ℕ) (r s : Translated)
     (p p' b b' e e' : List ℕ) → code.Allowed head nodes work_len table_len prologue body epilogue r p b e
     → code.Allowed head nodes work_len table_len prologue body epilogue s p' b' e' → (r ≡ s) × (p ≡ p') × (b ≡ b') × (e ≡ e')
-translating_fixed = code.one-outcome
+translating_fixed = code.one_outcome
 
 pub planning_fixed : (rule : ℕ) (head nodes : List ℕ) (work_len table_len : ℕ) (prologue body epilogue : List ℕ) (r s : Planned)
     (p p' b b' e e' : List ℕ) → planner.Allowed rule head nodes work_len table_len prologue body epilogue r p b e
     → planner.Allowed rule head nodes work_len table_len prologue body epilogue s p' b' e'
     → (r.answer ≡ s.answer) × (r.head ≡ s.head) × (p ≡ p') × (b ≡ b') × (e ≡ e')
-planning_fixed = planner.one-outcome
+planning_fixed = planner.one_outcome
 
 pub running_fixed : (h : ProgramHead) (prologue body epilogue : List ℕ) (budget : ℕ) (work table : List ℕ) (r s : RunAnswer) (v w : List ℕ)
     → machine.Allowed h prologue body epilogue budget work table r v → machine.Allowed h prologue body epilogue budget work table s w
     → (r ≡ s) × (v ≡ w)
-running_fixed = machine.one-outcome
+running_fixed = machine.one_outcome
 
 pub reading_refused : (text head nodes : List ℕ) (r : ReadAnswer) (h n : List ℕ) → sheet.Allowed text head nodes r h n
     → Leaves (of_read r).number head h × Leaves (of_read r).number nodes n
-reading_refused = sheet.refusal-leaves-tables
+reading_refused = sheet.refusal_leaves_tables
 
 pub looping_refused : (head nodes work table : List ℕ) (r : PlainAnswer) (v : List ℕ) → plain.Allowed head nodes work table r v
     → (of_plain r).number ≢ DONE → v ≡ work
-looping_refused = plain.refusal-leaves-work
+looping_refused = plain.refusal_leaves_work
 
 pub placing_refused : (rule : ℕ) (head nodes placed_head placed_nodes : List ℕ) (r : PlaceAnswer) (h n : List ℕ)
     → placing-call.Allowed rule head nodes placed_head placed_nodes r h n
     → Leaves (of_place r).number placed_head h × Leaves (of_place r).number placed_nodes n
-placing_refused = placing-call.refusal-leaves-tables
+placing_refused = placing-call.refusal_leaves_tables
 
 pub translating_refused : (head nodes : List ℕ) (work_len table_len : ℕ) (prologue body epilogue : List ℕ) (r : Translated) (p b e : List ℕ)
     → code.Allowed head nodes work_len table_len prologue body epilogue r p b e → ProgramLeaves (program_given r p b e) prologue body epilogue
-translating_refused = code.refusal-leaves
+translating_refused = code.refusal_leaves
 
 pub planning_refused : (rule : ℕ) (head nodes : List ℕ) (work_len table_len : ℕ) (prologue body epilogue : List ℕ) (r : Planned) (p b e : List ℕ)
     → planner.Allowed rule head nodes work_len table_len prologue body epilogue r p b e
     → ProgramLeaves (plan_given r p b e) prologue body epilogue
-planning_refused = planner.refusal-leaves
+planning_refused = planner.refusal_leaves
 
 -- ---- what is demanded of a program and of its run
 

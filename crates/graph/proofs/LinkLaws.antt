@@ -15,7 +15,7 @@ use Rattle.rules.specs.Tables.{Graph}
 use Rattle.rules.specs.Checks.{waits}
 use Rattle.rules.specs.declared.nodes.Node.{Node}
 use Rattle.rules.specs.declared.nodes.Node.TheVariants.{Load, Splat, Op, Shift}
-use Rattle.theory.proofs.Lists.{split, get_d_past}
+use Rattle.theory.proofs.Lists.{split, get_or_past}
 use Rattle.theory.proofs.FormLaws.{Formed}
 use Rattle.graph.specs.Links.{inputs, standing, listed, left_of, lefts, LinkedAt, Linked}
 
@@ -105,7 +105,7 @@ module _ (node : ℕ → Node) where
       (λ l.
       let e : k ≡ n = omega arith in
       let z : n + 0 ≡ n = omega arith in
-      rw e (rw z at (get_d_past (lefts node n) (left_of node n ∷ []) n 0 (length_lefts n))))
+      rw e (rw z at (get_or_past (lefts node n) (left_of node n ∷ []) n 0 (length_lefts n))))
 
 -- ---- the stack
 

@@ -9,7 +9,7 @@ use lib.Dec.{lit<}
 use lib.Arith.{mod-mul}
 use lib.ListN.{length, get_or, take, drop, get_or-append}
 use Rattle.rules.specs.Elements.{to_bytes, of_bytes, element}
-use Rattle.theory.proofs.Lists.{get_d_past}
+use Rattle.theory.proofs.Lists.{get_or_past}
 use Rattle.theory.proofs.Numbers.{Bytes, pow_pos}
 
 -- one more byte below a number
@@ -63,7 +63,7 @@ element_right zero v w n at e = refl
 element_right (suc d) v w n at e =
     let s : n + suc at ≡ suc (n + at) = omega arith in
     let i = rw s at (element_right d v w n (suc at) e) in
-    rw (value_more w at d, value_more (v ++ w) (n + at) d, get_d_past v w n at e, i)
+    rw (value_more w at d, value_more (v ++ w) (n + at) d, get_or_past v w n at e, i)
 
 -- one more byte before a part
 part_more : (v : List ℕ) (at n : ℕ) → at < length v → take (suc n) (drop at v) ≡ get_or v at 0 ∷ take n (drop (suc at) v)

@@ -41,8 +41,8 @@ every_append none r = r
 every_append (more p l) r = more p (every_append l r)
 
 -- a byte past the seam
-pub get_d_past : (p q : List ℕ) (n i : ℕ) → length p ≡ n → get_or (p ++ q) (n + i) 0 ≡ get_or q i 0
-get_d_past p q n i e = rw (← e) (get_or-append-add p q i 0)
+pub get_or_past : (p q : List ℕ) (n i : ℕ) → length p ≡ n → get_or (p ++ q) (n + i) 0 ≡ get_or q i 0
+get_or_past p q n i e = rw (← e) (get_or-append-add p q i 0)
 
 pub get_or_pastˡ : (p q : List ℕ) (i : ℕ) → length p ≤ i → get_or (p ++ q) i 0 ≡ get_or q (i - length p) 0
 get_or_pastˡ p q i h =
@@ -76,14 +76,14 @@ module _ (d : List ℕ) (at : ℕ) (s : List ℕ) (n : ℕ) (hd : at + n ≤ len
   pub paste_in : (i : ℕ) → i < n → get_or (paste d at s n) (at + i) 0 ≡ get_or s i 0
   paste_in i h =
       get_or-append (take at d ++ take n s) (drop (at + n) d) 0 (at + i) (omega (arith, head_length))
-      ∙ get_d_past (take at d) (take n s) at i (length-take-le at d (omega arith))
+      ∙ get_or_past (take at d) (take n s) at i (length-take-le at d (omega arith))
       ∙ get_or-take n s i 0 h
 
   pub paste_after : (i : ℕ) → at + n ≤ i → get_or (paste d at s n) i 0 ≡ get_or d i 0
   paste_after i h =
       let e : i ≡ at + n + (i - (at + n)) = omega arith in
       ap (λ (k : ℕ). get_or (paste d at s n) k 0) e
-      ∙ get_d_past (take at d ++ take n s) (drop (at + n) d) (at + n) (i - (at + n)) head_length
+      ∙ get_or_past (take at d ++ take n s) (drop (at + n) d) (at + n) (i - (at + n)) head_length
       ∙ get_or-drop (at + n) d (i - (at + n)) 0
       ∙ ap (λ (k : ℕ). get_or d k 0) (sym e)
 
@@ -99,7 +99,7 @@ module _ (u v : List ℕ) (l : ℕ) (hu : l ≤ length u) where
   splice_right b h =
       let e : b ≡ l + (b - l) = omega arith in
       ap (λ (k : ℕ). get_or (take l u ++ drop l v) k 0) e
-      ∙ get_d_past (take l u) (drop l v) l (b - l) (length-take-le l u hu)
+      ∙ get_or_past (take l u) (drop l v) l (b - l) (length-take-le l u hu)
       ∙ get_or-drop l v (b - l) 0 ∙ ap (λ (k : ℕ). get_or v k 0) (sym e)
 
 pub length_splice : (u v : List ℕ) (l : ℕ) → l ≤ length u → length u ≡ length v → length (vsplice u v l) ≡ length v
@@ -118,7 +118,7 @@ module _ (W : ℕ) (u v : List ℕ) (l : ℕ) (hu : length u ≡ W) where
 
   pub pair_right : (b i : ℕ) → b < W → l + b ≡ W + i → get_or (vshiftpair W u v l) b 0 ≡ get_or v i 0
   unfolding vshiftpair
-  pair_right b i h e = rw (get_or-take, get_or-drop, e) (get_d_past u v W i hu)
+  pair_right b i h e = rw (get_or-take, get_or-drop, e) (get_or_past u v W i hu)
 
 -- ---- lanes
 module _ (D : ℕ) (f : ℕ → List ℕ) (hf : (i : ℕ) → length (f i) ≡ D) where
@@ -131,4 +131,4 @@ module _ (D : ℕ) (f : ℕ → List ℕ) (hf : (i : ℕ) → length (f i) ≡ D
   get_or_lanes (suc n) i d h k = split i n
       (λ (l : i < n).
       get_or-append (lanes n f) (f n) 0 (i * D + d) (omega (arith, length_lanes n, mul-le-mul_right D l)) ∙ get_or_lanes n i d l k)
-      (λ l. let e : i ≡ n = omega arith in rw e (get_d_past (lanes n f) (f n) (n * D) d (length_lanes n)))
+      (λ l. let e : i ≡ n = omega arith in rw e (get_or_past (lanes n f) (f n) (n * D) d (length_lanes n)))

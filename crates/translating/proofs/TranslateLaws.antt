@@ -134,7 +134,7 @@ module _ (head nodes : List ℕ) (work_len table_len : ℕ) (P B E : List ℕ) w
   pub refusal_leaves : (a : TranslateAnswer) → Answers a → NotDone a → NotRoom a
       → given a no_program (cleared P) (cleared B) (cleared E) ≡ all
   unfolding translating
-  refusal_leaves a e not_done not-room = rw (← e) (go a not_done not-room)
+  refusal_leaves a e not_done not_room = rw (← e) (go a not_done not_room)
     where
       go : (a : TranslateAnswer) → NotDone a → NotRoom a
           → given a no_program (cleared P) (cleared B) (cleared E) ≡ program_left (of_translate a) g.D p P B E
