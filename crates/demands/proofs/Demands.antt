@@ -7,7 +7,7 @@ use mathlib.Core.Logic.{◌≢◌}
 use mathlib.Core.List.{List}
 use lib.ListN.{length, take}
 use Rattle.rules.specs.Limits.{vector_bytes}
-use Rattle.rules.specs.Answers.{DONE, OUT, FAULT, done, after, of_read, of_translate, of_plan, of_plain, of_place, of_run}
+use Rattle.rules.specs.Answers.{DONE, FAULT, done, after, of_read, of_translate, of_plan, of_plain, of_place, of_run}
 use Rattle.rules.specs.Placing.{place}
 use Rattle.rules.specs.Machine.{start}
 use Rattle.rules.specs.Code.{steps_of}

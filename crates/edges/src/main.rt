@@ -1,6 +1,7 @@
 // Prints, for each case on standard input, the line of its graph as it is drawn and the four lines of `places`. A case begins at a
 // dash: a name to the end of the line, then a text to the next dash or the end.
 #![tactic(auto)]
+
 use printing::Cases;
 use std::io;
 use std::io::Write;

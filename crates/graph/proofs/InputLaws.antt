@@ -8,7 +8,6 @@ use Rattle.rules.specs.Trees.{Tree, load, splat, op, shift, node_at, tree_at, tr
 use Rattle.rules.specs.declared.nodes.LoadAt.{LoadAt}
 use Rattle.rules.specs.declared.nodes.ShiftBy.{ShiftBy}
 use Rattle.rules.specs.declared.nodes.Node.{Node}
-use Rattle.rules.specs.declared.nodes.Node.TheVariants as Node
 use Rattle.rules.specs.Limits.{vector_bytes, nodes_most}
 use Rattle.rules.specs.Tables.{Graph}
 use Rattle.theory.proofs.FormLaws.{Formed, some_row}

@@ -7,7 +7,7 @@ use native.Mathlib.Numerals.{add-one}
 use native.Mathlib.Omega.{arith}
 use borrow.Author.Tests.{lt-ltb, le-ltb}
 use Rattle.rules.specs.Limits.{vector_bytes}
-use Rattle.rules.specs.Answers.{at, first}
+use Rattle.rules.specs.Answers.{first}
 use Rattle.rules.specs.Ranges.{row_ok, takes}
 use Rattle.rules.specs.Trees.{cell}
 use Rattle.rules.specs.Tables.{Graph}

@@ -1,7 +1,7 @@
 -- "an op takes the last two nodes that wait, the earlier as its left; a shift takes the last one": which nodes wait, by their
 -- numbers, and so where each node's inputs are. The last that waits is always the node just before.
 use Rattle.std.specs.Prelude.{ℕ, zero, suc, ◌-◌, ◌<◌, ◌≡◌, List, [], ◌∷◌, ◌++◌, get_or, drop}
-use Rattle.rules.specs.Trees.{Tree, load, splat, op, shift, tree_at}
+use Rattle.rules.specs.Trees.{load, splat, op, shift, tree_at}
 use Rattle.rules.specs.declared.nodes.Node.{Node}
 use Rattle.rules.specs.declared.nodes.Node.TheVariants.{Load, Splat, Op, Shift}
 

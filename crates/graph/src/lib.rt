@@ -1,6 +1,7 @@
 // A graph handed over as tables: its check by 3 and 4 "as if read", its header, and where each node's inputs are. Every call above
 // stands on these.
 #![tactic(auto)]
+
 mod form;
 mod headers;
 mod links;

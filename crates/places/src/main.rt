@@ -1,5 +1,6 @@
 // Prints what the four placing rules make of the loop sheet on standard input: `printing::places` of its first bytes, no more.
 #![tactic(auto)]
+
 use rules::limits::TEXT_MOST;
 use std::io;
 use std::io::Write;

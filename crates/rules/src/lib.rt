@@ -1,6 +1,7 @@
 // The rules of document 01: the types and numbers that every layer shares. Their meaning is in specs/,
 // worked examples in proofs/, the argument about them in crate theory; no code stands here.
 #![tactic(auto)]
+
 pub mod answers;
 pub mod limits;
 pub mod nodes;

@@ -1,6 +1,7 @@
 // The library for callers in C and Rust: each public call under one name, with numbers and lent tables only. A lent table is a
 // pointer and then its length. docs/CALLERS.md has every call and every answer.
 #![tactic(auto)]
+
 mod packing;
 mod programs;
 

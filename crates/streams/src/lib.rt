@@ -1,5 +1,6 @@
 // What the programs read: the first bytes of a stream, as many as a buffer takes.
 #![tactic(auto)]
+
 ghost use Rattle.std.specs.Prelude.{◌≤◌, length, IfOk};
 
 use std::io;

@@ -1,7 +1,7 @@
 -- The other side of "exactly when": a graph in which nothing is wrong is not refused. With Checked.antt, each check is done exactly
 -- where its fact holds; so a system that refuses everything is ruled out.
 use mathlib.Core.Path.{◌≡◌, refl}
-use mathlib.Core.Bool.{Bool, true, false, not, ◌&&◌, ◌||◌, false≢true}
+use mathlib.Core.Bool.{Bool, true, false, ◌&&◌, ◌||◌, false≢true}
 use mathlib.Core.List.{List, [], ◌∷◌, append-nil}
 use Prim.Native.Nat.{ℕ, zero, suc, ◌+◌, ◌*◌, ◌%◌, ◌≤◌, ◌<◌}
 use native.Mathlib.Omega.{arith}
@@ -9,11 +9,11 @@ use borrow.Author.Tests.{eq-eqb, ne_eqb, eqb-true, ltb-true, lt-leb, le-ltb}
 use lib.Dec.{ltb, eqb}
 use lib.ListN.{length}
 use Rattle.rules.specs.Limits.{work_window, bare_most, rules_most, long_most}
-use Rattle.rules.specs.Answers.{Answer, at, done, first, each}
+use Rattle.rules.specs.Answers.{Answer, done, first, each}
 use Rattle.rules.specs.Frames.{load_kind, shift_kind}
 use Rattle.rules.specs.Ranges.{row_ok, takes}
 use Rattle.rules.specs.Trees.{Tree, load, splat, op, shift, cell, node_of, node_at, push, waiting, top, tree_at, tree_of}
-use Rattle.rules.specs.Offsets.{offset, rule_kept, root_kept}
+use Rattle.rules.specs.Offsets.{rule_kept, root_kept}
 use Rattle.rules.specs.Code.{G}
 use Rattle.rules.specs.Tables.{Graph, graph_of}
 use Rattle.rules.specs.Checks.{is_load, load_window, load_address, length_of, window_ok, head_short, nodes_short, section_short, bare_row, bare_check, window_check, align_row, align_check, bounds_row, bounds_check, carry_row, carry_check, offset_row, offset_check, long_check}

@@ -9,7 +9,7 @@ use borrow.Author.Tests.{ltb-true, ltb-false, leb-true, leb-false, eqb-true, eqb
 use lib.Dec.{ltb, leb, eqb}
 use lib.ListN.{length, get_or}
 use Rattle.rules.specs.Limits.{windows, operations, bare_most, long_most, elements_most, width_most, address_most, window_most}
-use Rattle.rules.specs.Answers.{Answer, DONE, at, refuse_if, each, ALIGN, BOUNDS, CARRY, OFFSET}
+use Rattle.rules.specs.Answers.{Answer, DONE, at, refuse_if, each, ALIGN, BOUNDS, OFFSET}
 use Rattle.rules.specs.Units.{is_width}
 use Rattle.rules.specs.Elements.{modulus}
 use Rattle.rules.specs.Frames.{load_kind, splat_kind, op_kind, shift_kind}

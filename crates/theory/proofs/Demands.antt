@@ -18,7 +18,7 @@ use Prim.Native.Nat.{ℕ, zero, suc, ◌≤◌, ◌<◌}
 use native.Mathlib.Nat.{sub-zero}
 use native.Mathlib.Omega.{arith}
 use lib.ListN.{length, get_or, take, replicate}
-use Rattle.rules.specs.Answers.{Answer, DONE, ROOM, OUT, FAULT, at, after, done, first}
+use Rattle.rules.specs.Answers.{Answer, DONE, ROOM, OUT, FAULT, after, done, first}
 use Rattle.rules.specs.Trees.{Tree, rows}
 use Rattle.rules.specs.PlainLoop.{window, plain}
 use Rattle.rules.specs.Placing.{place}

@@ -9,7 +9,7 @@ use native.Mathlib.Omega.{arith}
 use borrow.Author.Tests.{le-ltb, ltb-false}
 use lib.ListN.{length, take, length-replicate, replicate}
 use Rattle.rules.specs.Limits.{registers, section_most, long_most, elements_most, full_most, instruction_entries}
-use Rattle.rules.specs.Answers.{DONE, OUT, at, after, first, done}
+use Rattle.rules.specs.Answers.{DONE, OUT, after, first, done}
 use Rattle.rules.specs.Trees.{Tree}
 use Rattle.rules.specs.PlainLoop.{plain}
 use Rattle.rules.specs.Offsets.{root_kept}

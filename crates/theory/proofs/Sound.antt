@@ -16,7 +16,7 @@ use Rattle.rules.specs.Answers.{DONE, OUT}
 use Rattle.rules.specs.Elements.{to_bytes}
 use Rattle.rules.specs.PlainLoop.{window}
 use Rattle.rules.specs.Vectors.{vsplat, vop, block_zero, block_of, inside, stored}
-use Rattle.rules.specs.Machine.{State, reg, write, fields_as, reaches_as, sound_as, sound, effect_as, effect, Timed, in_pass, passes, trace, standing, step, runs, blank, splat_value}
+use Rattle.rules.specs.Machine.{State, reg, write, fields_as, reaches_as, sound_as, sound, effect_as, effect, Timed, in_pass, passes, standing, step, runs, blank, splat_value}
 use Rattle.rules.specs.declared.program.Instruction.{Instruction}
 use Rattle.theory.proofs.Lists.{split, and_left, and_right, Every, none, more, every_append, length_lanes, length_pair, length_splice}
 use Rattle.theory.proofs.Numbers.{length_to_bytes}

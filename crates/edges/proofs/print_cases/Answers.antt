@@ -1,8 +1,5 @@
 -- Each case lies within the input and ends further on.
-use Prim.Native.Nat.{◌-◌, ◌≤◌}
 use native.Mathlib.Omega.{arith}
-use lib.ListN.{length}
-use borrow.Author.Rules.{rules}
 use Rattle.printing.proofs.CaseLaws.{case_within}
 use Rattle.edges.proofs.print_cases.Goals as goal
 

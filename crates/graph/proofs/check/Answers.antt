@@ -10,7 +10,6 @@ use Rattle.rules.specs.Tables.{graph_of}
 use Rattle.theory.proofs.Firsts.{form_alone}
 use Rattle.rules.specs.Calls.{checking}
 use Rattle.rules.specs.Checks.{form_check}
-use borrow.Author.Rules.{rules}
 use Rattle.graph.proofs.check.Goals as goal
 
 roomy : (head nodes : List ℕ) → 10 ≤ length head → 192 ≤ length nodes

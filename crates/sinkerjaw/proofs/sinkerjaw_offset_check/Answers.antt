@@ -1,7 +1,6 @@
 -- The call meets the definition, and its answer is packed.
 use mathlib.Core.Path.{ap, ◌∙◌}
 use Rattle.sinkerjaw.specs.Packed.{packed}
-use borrow.Author.Rules.{rules}
 use Rattle.sinkerjaw.proofs.sinkerjaw_offset_check.Goals as goal
 
 pub returns : goal.returns

@@ -2,7 +2,6 @@
 use mathlib.Core.Path.{ap, ◌∙◌}
 use Rattle.sinkerjaw.specs.Packed.{packed}
 use Rattle.sinkerjaw.specs.Given.{of_with_sheet}
-use borrow.Author.Rules.{rules}
 use Rattle.sinkerjaw.proofs.sinkerjaw_read.Goals as goal
 
 pub returns : goal.returns

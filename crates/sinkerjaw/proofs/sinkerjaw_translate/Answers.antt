@@ -3,7 +3,6 @@ use mathlib.Core.Path.{ap, ◌∙◌}
 use borrow.Author.Tests.{lt-ltb}
 use Rattle.sinkerjaw.specs.Packed.{packed}
 use Rattle.sinkerjaw.proofs.ProgramLaws.{translated_handed}
-use borrow.Author.Rules.{rules}
 use Rattle.sinkerjaw.proofs.sinkerjaw_translate.Goals as goal
 
 pub returns-then-program-lt-PROGRAM_ENTRIES : goal.returns-then-program-lt-PROGRAM_ENTRIES

@@ -2,10 +2,8 @@
 use Prim.Native.Nat.{ℕ}
 use mathlib.Core.Path.{◌≡◌, sym, ap, ◌∙◌}
 use mathlib.Core.Bool.{true, false}
-use borrow.Author.Tests.{not-true, not-false}
 use Rattle.graph.specs.Forms.{end_found}
 use Rattle.graph.proofs.HeaderLaws.{head_refused, rows_refused, rows_waiting}
-use borrow.Author.Rules.{rules}
 use Rattle.graph.proofs.form.form.Goals as goal
 
 pub returns-then-not-in_range : goal.returns-then-not-in_range

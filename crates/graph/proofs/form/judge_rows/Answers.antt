@@ -1,13 +1,8 @@
-use Prim.Native.Nat.{ℕ, ◌-◌, ◌≤◌}
+use Prim.Native.Nat.{ℕ}
 use mathlib.Core.List.{List}
 use native.Mathlib.Omega.{arith}
-use borrow.Author.Rules.{rules}
-use borrow.Author.Tests.{not-true, not-false}
-use Rattle.rules.specs.Units.{width_bytes}
-use Rattle.rules.specs.Tables.{Graph}
 use Rattle.graph.specs.Headers.{graph_in}
 use Rattle.graph.proofs.RowChecks.{RowsSo, rows_begin, row_range, row_shape, row_next, rows_end}
-use Rattle.rules.specs.declared.units.Width.{Width}
 use Rattle.graph.specs.declared.headers.Header.{Header}
 use Rattle.graph.proofs.form.judge_rows.Invariants.{rows_of}
 use Rattle.graph.proofs.form.judge_rows.Goals as goal

@@ -1,15 +1,10 @@
 -- The rows so far pass (RowChecks), and the count of those that wait is the definition's.
 use Prim.Native.Nat.{ℕ, ◌-◌, ◌≤◌}
 use mathlib.Core.List.{List}
-use native.Mathlib.Omega.{arith}
-use borrow.Author.Rules.{rules}
-use borrow.Author.Tests.{not-true, not-false}
 use Rattle.rules.specs.Units.{width_bytes}
 use Rattle.rules.specs.Tables.{Graph}
-use Rattle.graph.specs.Headers.{graph_in}
-use Rattle.graph.proofs.RowChecks.{RowsSo, rows_begin, row_range, row_shape, row_next, rows_end}
+use Rattle.graph.proofs.RowChecks.{RowsSo}
 use Rattle.rules.specs.declared.units.Width.{Width}
-use Rattle.graph.specs.declared.headers.Header.{Header}
 use Rattle.graph.proofs.form.judge_rows.Given as goal
 
 abbrev pub rows_of : List ℕ → Width → ℕ → Graph

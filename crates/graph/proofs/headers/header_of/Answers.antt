@@ -1,5 +1,4 @@
 -- Each part by the call that gave it.
-use borrow.Author.Rules.{rules}
 use Rattle.graph.proofs.headers.header_of.Goals as goal
 
 pub returns : goal.returns

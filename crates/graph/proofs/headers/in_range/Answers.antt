@@ -1,5 +1,4 @@
 -- The three entries, judged.
-use borrow.Author.Rules.{rules}
 use Rattle.graph.proofs.headers.in_range.Goals as goal
 
 pub returns : goal.returns

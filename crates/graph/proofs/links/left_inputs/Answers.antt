@@ -1,14 +1,13 @@
-use Prim.Native.Nat.{ℕ, ◌-◌, ◌≤◌}
+use Prim.Native.Nat.{ℕ, ◌-◌}
 use mathlib.Core.Path.{◌≡◌, refl, ap, ◌∙◌}
 use native.Mathlib.Omega.{arith}
-use borrow.Author.Rules.{rules}
 use mathlib.Core.List.{List, []}
 use Rattle.rules.specs.declared.nodes.Node.{Node}
 use lib.ListN.{length, get_or, length-set}
 use Rattle.rules.specs.Limits.{nodes_most}
 use Rattle.rules.specs.Trees.{node_at}
-use Rattle.graph.specs.Links.{inputs, standing, listed, left_of}
-use Rattle.graph.proofs.LinkLaws.{LeftsSo, none_stand, stack_next, lefts_none, lefts_next, lefts_all}
+use Rattle.graph.specs.Links.{inputs, standing, left_of}
+use Rattle.graph.proofs.LinkLaws.{none_stand, stack_next, lefts_none, lefts_next, lefts_all}
 use Rattle.graph.proofs.links.left_inputs.Goals as goal
 
 left-of : (node : ℕ → Node) (k : ℕ) (standing-now : List ℕ) {v : ℕ} → standing-now ≡ standing node k → v ≡ get_or standing-now 1 0 → v ≡ left_of node k

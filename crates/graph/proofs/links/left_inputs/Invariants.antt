@@ -1,15 +1,11 @@
 -- The stack lists the nodes that stand (LinkLaws), so that its last but one is the next left input.
-use Prim.Native.Nat.{ℕ, ◌-◌, ◌≤◌}
-use mathlib.Core.Path.{◌≡◌, refl, ap, ◌∙◌}
-use native.Mathlib.Omega.{arith}
-use borrow.Author.Rules.{rules}
-use mathlib.Core.List.{List, []}
-use Rattle.rules.specs.declared.nodes.Node.{Node}
-use lib.ListN.{length, get_or, length-set}
+use Prim.Native.Nat.{◌-◌, ◌≤◌}
+use mathlib.Core.Path.{◌≡◌}
+use lib.ListN.{length}
 use Rattle.rules.specs.Limits.{nodes_most}
 use Rattle.rules.specs.Trees.{node_at}
-use Rattle.graph.specs.Links.{inputs, standing, listed, left_of}
-use Rattle.graph.proofs.LinkLaws.{LeftsSo, none_stand, stack_next, lefts_none, lefts_next, lefts_all}
+use Rattle.graph.specs.Links.{standing, listed}
+use Rattle.graph.proofs.LinkLaws.{LeftsSo}
 use Rattle.graph.proofs.links.left_inputs.Given as goal
 
 abbrev pub invariant-loop-k : goal.invariant-loop-k

@@ -2,7 +2,6 @@
 use lib.ListN.{length}
 use borrow.Author.Tests.{eq-eqb, ne_eqb}
 use Rattle.sinkerjaw.proofs.ProgramLaws.{head_put}
-use borrow.Author.Rules.{rules}
 use Rattle.sinkerjaw.proofs.programs.leave_program.Goals as goal
 
 pub returns-then-answer-eq-ROOM : goal.returns-then-answer-eq-ROOM
