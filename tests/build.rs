@@ -1,4 +1,4 @@
-//! Links ../target/staticlib/libsinkerjaw.a, which `rt staticlib sinkerjaw` writes, and says which calls it has. Where it is not there
+//! Links ../target/staticlib/libsinkerjaw.a, which `tools/build` writes, and says which calls it has. Where it is not there
 //! yet, everything but the library itself still builds: the self-check needs only what is in Rust.
 
 use std::path::Path;
@@ -11,7 +11,7 @@ fn main() {
     println!("cargo:rerun-if-changed={}", archive.display());
     println!("cargo:rustc-check-cfg=cfg(linked, values(none(), \"{}\"))", CALLS.join("\", \""));
     let Ok(archive) = std::fs::read(archive) else {
-        println!("cargo:warning=built without the library: run `rt staticlib sinkerjaw` first");
+        println!("cargo:warning=built without the library: run `tools/build` first");
         return;
     };
     println!("cargo:rustc-cfg=linked");

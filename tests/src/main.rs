@@ -226,7 +226,7 @@ fn main() -> ExitCode {
         Some(_) if !keeps_header() => ExitCode::FAILURE,
         Some(calls) => compare(&calls, LINKED, times, seeds),
         None => {
-            eprintln!("built without the library: `rt staticlib sinkerjaw`, then build again");
+            eprintln!("built without the library: `tools/build`, then build again");
             ExitCode::from(2)
         }
     }

@@ -8,7 +8,7 @@ place_unit = 256
 abbrev pub steps_unit : ℕ
 steps_unit = 65536
 
--- room for the steps of any run: it has at most 2,049 * 1,024 (machine's Outcomes.steps-bounded)
+-- room for the steps of any run: it has at most 2,049 * 1,024 (machine's Outcomes.steps_bounded)
 abbrev pub steps_room : ℕ
 steps_room = 281474976710656
 

@@ -1,15 +1,15 @@
 -- The three demands, of the definitions of the calls (specs/Calls.antt): what the layers' contracts say they give and leave.
 -- Everything holds over any width W of a vector that VectorWidth admits; `sixteen` is the paper's.
 --
--- Demand 1. Every input gets one fixed answer (`decided`); a refusal changes no window (`looping-keeps-work`,
--- `unstarted-keeps-work`) and leaves lent tables as laid down (`reading-leaves`, `placing-leaves`, `translating-leaves`,
--- `planning-leaves`); a stopped run leaves exactly the stores made so far (`running-cut`).
+-- Demand 1. Every input gets one fixed answer (`decided`); a refusal changes no window (`looping_keeps_work`,
+-- `unstarted_keeps_work`) and leaves lent tables as laid down (`reading_leaves`, `placing_leaves`, `translating_leaves`,
+-- `planning_leaves`); a stopped run leaves exactly the stores made so far (`running_cut`).
 -- Demand 2. A bare sheet that is not refused, placed by any of the four rules, translated and run, leaves the plain loop's
--- memory of the bare sheet (`planned-runs`, `placed-runs`); and one in which nothing is wrong is not refused (`bare-sheet-planned`).
+-- memory of the bare sheet (`planned_runs`, `placed_runs`); and one in which nothing is wrong is not refused (`bare_sheet_planned`).
 -- Demand 3. Any graph that translating does not refuse, whoever drew it, becomes a program that never faults, is done in exactly
 -- the formula's steps, stores into the blocks that hold a byte of the plan and no other, each once, and leaves the plain loop's
--- memory (`translated-runs`, `runs-never-fault`, `translated-looping`); and one that keeps every rule is not refused
--- (Accepted.translating-accepts).
+-- memory (`translated_runs`, `runs_never_fault`, `translated_looping`); and one that keeps every rule is not refused
+-- (Accepted.translating_accepts).
 use mathlib.Core.Path.{◌≡◌, refl, sym, ap, ◌∙◌}
 use mathlib.Core.Logic.{◌≢◌}
 use mathlib.Core.Bool.{Bool, true, false, ◌||◌}

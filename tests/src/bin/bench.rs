@@ -196,7 +196,7 @@ fn main() -> ExitCode {
         (true, _) => ("independent", INDEPENDENT, &ALL[..]),
         (false, Some(calls)) => ("library", calls, LINKED),
         (false, None) => {
-            eprintln!("built without the library: `rt staticlib sinkerjaw`, then build again");
+            eprintln!("built without the library: `tools/build`, then build again");
             return ExitCode::from(2);
         }
     };

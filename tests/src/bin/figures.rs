@@ -154,7 +154,7 @@ fn main() -> ExitCode {
         return ExitCode::from(2);
     };
     let Some(calls) = library().filter(|_| LINKED == ALL) else {
-        eprintln!("built without the whole library: `rt staticlib sinkerjaw`, then build again");
+        eprintln!("built without the whole library: `tools/build`, then build again");
         return ExitCode::from(2);
     };
     let mut rows = Vec::new();
