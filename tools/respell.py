@@ -41,7 +41,7 @@ def own_names():
                 in_record = None
             if re.match(r"\s*(pub\s+)?(abbrev\s+)?(pub\s+)?(record|data)\b.*\bwhere\b", line):
                 in_record = indent
-            m = re.match(r"^\s*((?:(?:abbrev|unfoldable|pub)\s+)*)(data |record )?(" + WORD.replace(".", ":") + r")\s*(?::\s|\()", line)
+            m = re.match(r"^\s*((?:(?:abbrev|unfoldable|pub)\s+)*)(data |record )?(" + WORD.replace(".", ":") + r")\s*(?::(?:\s|$)|\()", line)
             if not m or line.strip().startswith("--") or m.group(3) in ("use", "module", "open", "unfolding", "mod", "let", "in", "elim", "record"):
                 continue
             if m.group(1) or m.group(2) or re.match(r"^\s*" + re.escape(m.group(3)) + " : ", line):

@@ -56,6 +56,7 @@ pub fn width_of(d: u64) -> Width
     }
 }
 
+#[tactic(auto, unfolding(rules::specs::Ranges::load_ok))]
 fn load_ok(window: u64, address: u64) -> bool
     ensures { result ≡ load_ok window address }
 {
@@ -94,6 +95,7 @@ pub fn is_multiple(width: Width, x: u64) -> bool
     }
 }
 
+#[tactic(auto, unfolding(rules::specs::Ranges::shift_ok))]
 fn shift_ok(width: Width, from: u64, to: u64) -> bool
     ensures { result ≡ shift_ok vector_bytes (width_bytes width) from to }
 {

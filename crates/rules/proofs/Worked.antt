@@ -102,7 +102,7 @@ figures rule =
 -- "On done the reader's tables hold the header's fields and, node by node in the order of the lines, each frame's kind and
 -- fields". "Output: 0000000400170000013C, 01000003000B000000A0, 02000003000B000000A0, 03000002000F000000D4". On this sheet EAGER
 -- and LAZY make one graph; where an op's inputs agree, LAZY moves the root alone
-pub printed-sheet-is-read-and-placed :
+pub printed_sheet_is_read_and_placed :
     (sheet_of printed ≡ record {
       answer = Done;
       head = 2 ∷ 100 ∷ 0x0206 ∷ 5 ∷ [];
@@ -115,7 +115,7 @@ pub printed-sheet-is-read-and-placed :
     × (map (λ rule. place vector_bytes 6 rule (op 0 (load 0 2) (load 1 18))) (1 ∷ 2 ∷ [])
     ≡ op 0 (shift 2 6 (load 0 2)) (shift 2 6 (load 1 18)) ∷ shift 2 6 (op 0 (load 0 2) (load 1 18)) ∷ [])
 unfolding the_reader tree_of waiting node_at place toward loads_to inputs_to dominant steps_of
-printed-sheet-is-read-and-placed = (refl, refl, refl, refl, refl)
+printed_sheet_is_read_and_placed = (refl, refl, refl, refl, refl)
 
 -- "Output"
 abbrev output : List ℕ
@@ -135,7 +135,7 @@ refusal answer = answer ++ (48 ∷ 48 ∷ 48 ∷ 48 ∷ 48 ∷ 48 ∷ 48 ∷ 48 
 
 -- "a reading refusal stands on all four lines": the empty text is LINE on line 1. The printed sheet as it is drawn breaks an offset
 -- rule on line 4
-pub what-the-programs-print :
+pub what_the_programs_print :
     (Printing.printed printed ≡ output)
     × (Printing.drawn printed ≡ 70 ∷ 70 ∷ refusal (48 ∷ 65 ∷ 48 ∷ 52 ∷ []))
     × (Printing.printed []
@@ -144,7 +144,7 @@ pub what-the-programs-print :
     ++ 48 ∷ 50 ∷ refusal (48 ∷ 50 ∷ 48 ∷ 49 ∷ [])
     ++ 48 ∷ 51 ∷ refusal (48 ∷ 50 ∷ 48 ∷ 49 ∷ []))
 unfolding the_programs
-what-the-programs-print = (refl, refl, refl)
+what_the_programs_print = (refl, refl, refl)
 
 -- ---- operations
 
@@ -154,7 +154,7 @@ signed D x y = operate D 4 x y ∷ operate D 5 x y ∷ []
 
 -- "4 and 5 are minimum and maximum read as two's complement": on both sides of the sign, either way round, and for two of one
 -- sign; and 0 to 3 where the unsigned order is the other
-pub operations-on-both-sides-of-the-sign :
+pub operations_on_both_sides_of_the_sign :
     (signed 1 128 127
     ∷ signed 1 127 128
     ∷ signed 1 255 128
@@ -177,7 +177,7 @@ pub operations-on-both-sides-of-the-sign :
     ∷ [])
     × (map (λ o. operate 1 o 130 127) (0 ∷ 1 ∷ 2 ∷ 3 ∷ []) ≡ 1 ∷ 3 ∷ 127 ∷ 130 ∷ [])
 unfolding operate modulus negative signed_less
-operations-on-both-sides-of-the-sign = (refl, refl)
+operations_on_both_sides_of_the_sign = (refl, refl)
 
 -- ---- the reordering operations
 
@@ -206,16 +206,16 @@ reordering_at_its_ends v1 v2 h1 h2 = (refl, whole, take_at v1 v2 16 h1, refl)
 
 -- "its offset is the defined one if either is, else undefined. (Equation 4 read literally loses it when the left input is a
 -- splat.)": with it lost, a root at 6 would pass for a store at 8
-pub splat-on-the-left-keeps-the-offset :
+pub splat_on_the_left_keeps_the_offset :
     (offset vector_bytes (op 0 (splat 7) (load 0 6)) ≡ At (bytes 6))
     × (offset vector_bytes (op 0 (load 0 6) (splat 7)) ≡ At (bytes 6))
     × (offset vector_bytes (op 0 (splat 7) (splat 7)) ≡ Undefined)
     × (root_kept vector_bytes 8 (op 0 (splat 7) (load 0 6)) ≡ false)
-splat-on-the-left-keeps-the-offset = (refl, refl, refl, refl)
+splat_on_the_left_keeps_the_offset = (refl, refl, refl, refl)
 
 -- "the offset met most often among the loads and the store, the smallest on a tie": 4 and 8 once each, whichever is the
 -- store's; then 8 by the store and a load, and 4 by one, two and three loads; then three offsets once each
-pub dominant-counts-the-store-and-breaks-ties-downward :
+pub dominant_counts_the_store_and_breaks_ties_downward :
     dominant vector_bytes 8 (load 0 4)
     ∷ dominant vector_bytes 4 (load 0 8)
     ∷ dominant vector_bytes 8 (op 0 (load 0 4) (load 0 8))
@@ -225,7 +225,7 @@ pub dominant-counts-the-store-and-breaks-ties-downward :
     ∷ []
     ≡ 4 ∷ 4 ∷ 8 ∷ 4 ∷ 4 ∷ 4 ∷ []
 unfolding dominant
-dominant-counts-the-store-and-breaks-ties-downward = refl
+dominant_counts_the_store_and_breaks_ties_downward = refl
 
 -- ---- the checks
 
@@ -256,7 +256,7 @@ abbrev rows_of : (D N : ℕ) → List ℕ → Graph
 rows_of D N nodes = record { D = D; n = 2; S = 0; N = N; nodes = nodes }
 
 -- the numbers of the table in their order; then 3 and 4 "as if read", 5, 6, 7, 10 and 11, each with its place
-pub checks-at-their-edges :
+pub checks_at_their_edges :
     (DONE ∷ ROOM ∷ LINE ∷ RANGE ∷ SHAPE ∷ BARE ∷ WINDOW ∷ ALIGN ∷ BOUNDS ∷ CARRY ∷ OFFSET ∷ LONG ∷ OUT ∷ FAULT ∷ [] ≡ up_to 14)
     × (rule_check 3 ∷ rule_check 4 ∷ [] ≡ done ∷ at RANGE 0 ∷ [])
     × (head_ok 8 4096 65535 ∷ head_ok 8 4097 0 ∷ head_ok 8 0 65536 ∷ load_ok 1 65535 ∷ load_ok 1 65536 ∷ []
@@ -317,7 +317,7 @@ pub checks-at-their-edges :
     × (map long_check long_trees ≡ done ∷ at LONG 0 ∷ done ∷ at LONG 0 ∷ [])
 unfolding form_check waits bare_check window_check align_check offset_check long_check first head_ok is_width row_ok load_ok splat_ok
     op_ok shift_ok modulus takes tree_of tree_at waiting node_at
-checks-at-their-edges = (refl, refl, refl, refl, refl, refl, refl, refl, refl, refl)
+checks_at_their_edges = (refl, refl, refl, refl, refl, refl, refl, refl, refl, refl)
 
 -- ---- reading
 
@@ -341,7 +341,7 @@ summed zero = a_load
 summed (suc k) = summed k ++ (a_load ++ an_add)
 
 -- "the first line at fault; on one line 2 before 3 before 4. A missing end is at the line after the last."
-pub reading-names-the-first-line-at-fault :
+pub reading_names_the_first_line_at_fault :
     map (λ text. (sheet_of text).answer)
     -- "Empty text: LINE, line 1. End frame 0500 after the header: SHAPE."
     ([]
@@ -392,7 +392,7 @@ pub reading-names-the-first-line-at-fault :
     ∷ Line 2
     ∷ []
 unfolding the_reader
-reading-names-the-first-line-at-fault = refl
+reading_names_the_first_line_at_fault = refl
 
 -- ---- loops in lent tables, and their runs
 
@@ -448,7 +448,7 @@ not_bounded = record { D = 2; n = 2; S = 14; tree = splat 5; work = up_to 16; ta
 
 -- "On done the unused entries of output tables are zero. ROOM leaves tables unchanged; 2 to 11 leave the lent output tables all
 -- zero.": tables of 7 at first, and for ROOM the node table one entry short
-pub tables-after-each-kind-of-answer :
+pub tables_after_each_kind_of_answer :
     (reading printed (replicate 10 7) (replicate 192 7)
     ≡ record {
       answer = done;
@@ -507,7 +507,7 @@ pub tables-after-each-kind-of-answer :
       epilogue = replicate 6144 0;
     })
 unfolding the_reader the_calls
-tables-after-each-kind-of-answer = (refl, refl, refl, refl, refl, refl, refl, refl)
+tables_after_each_kind_of_answer = (refl, refl, refl, refl, refl, refl, refl, refl)
 
 -- ---- which of two faults a call names
 
@@ -535,7 +535,7 @@ offset_answer l entries = offset_checking vector_bytes (head_table l) (take entr
 
 -- "Then, in order, placing gives 5 and 7; the plain loop 6 to 8; translating 6 to 11": each row but the last of its call has two
 -- faults, and the earlier is named. "From the window as it then stands": the plain loop carries byte 0 along, and vectors cannot
-pub calls-name-the-first-fault :
+pub calls_name_the_first_fault :
     (placed_answer no_width 4 191
     ∷ placed_answer no_width 4 192
     ∷ placed_answer (two_at 0 (shift 2 2 (load 0 2))) 3 192
@@ -583,7 +583,7 @@ pub calls-name-the-first-fault :
     ≡ at ROOM 0 ∷ at RANGE 3 ∷ at OFFSET 3 ∷ at OFFSET 1 ∷ done ∷ [])
     × (looped carrying ≡ record { answer = done; work = 5 ∷ 5 ∷ 5 ∷ 5 ∷ drop 4 (up_to 16) })
 unfolding the_calls
-calls-name-the-first-fault = (refl, refl, refl, refl, refl)
+calls_name_the_first_fault = (refl, refl, refl, refl, refl)
 
 -- a program's run by a rule is done after so many steps, a budget of just as many and the count of the definition, and leaves
 -- what the plain loop leaves
@@ -602,12 +602,12 @@ no_element = record { D = 8; n = 0; S = 32; tree = load 0 32; work = up_to 32; t
 
 -- F = 0. EAGER shifts table right and work left, G = 7, and the bytes before and after the four elements stay; one step less is
 -- OUT, with work as before, for the store comes last. "n = 0: no instructions": a prologue would store past the window
-pub runs-without-a-whole-vector-are-their-loops :
+pub runs_without_a_whole_vector_are_their_loops :
     RunsAsLoop within_one_block 1 11 (take 22 (up_to 48) ++ (234 ∷ 237 ∷ 244 ∷ 251 ∷ 6 ∷ 18 ∷ 32 ∷ 48 ∷ drop 30 (up_to 48)))
     × (ran within_one_block 1 10 ≡ record { answer = after OUT 10; work = up_to 48 })
     × RunsAsLoop no_element 1 0 (up_to 32)
 unfolding the_calls
-runs-without-a-whole-vector-are-their-loops = ((refl, refl, refl), refl, (refl, refl, refl))
+runs_without_a_whole_vector_are_their_loops = ((refl, refl, refl), refl, (refl, refl, refl))
 
 -- D = 2, c = 6, n = 15, so F = 2 and e = 2: table minus work, but at least 16 as a signed number
 abbrev over_three_blocks : Loop
@@ -627,11 +627,11 @@ last_column =
 
 -- ZERO shifts both loads left and the root right, G = 19: prologue 22 steps, one pass of the body 20, epilogue 22; the right
 -- shift needs its previous block in the body and in the epilogue. At e = 0 an epilogue would store past the window
-pub runs-with-whole-vectors-are-their-loops :
+pub runs_with_whole_vectors_are_their_loops :
     RunsAsLoop over_three_blocks 0 64 over_three_blocks_after
     × RunsAsLoop last_column 2 6 (take 24 (up_to 32) ++ (23 ∷ drop 25 (up_to 32)))
 unfolding the_calls
-runs-with-whole-vectors-are-their-loops = ((refl, refl, refl), (refl, refl, refl))
+runs_with_whole_vectors_are_their_loops = ((refl, refl, refl), (refl, refl, refl))
 
 -- ---- the machine on programs that no translator made
 
@@ -657,7 +657,7 @@ beginning h = (running vector_bytes h [] [] [] 0 [] []).answer
 -- "next instruction has an unknown kind, operation, window, register, amount or splat value, or stores outside": both sides of
 -- each. "At each step 12 before 13". "A load of a block outside its window gives sixteen zeros", here over a splat of 3. "At the
 -- start, D is wrong or F is above 2,048", and ROOM before. Address 0 is held as 2^31
-pub faults-at-their-edges :
+pub faults_at_their_edges :
     (map of_row
     -- a load into the last register, and one past it; of window 1, and of 2
     ((1 ∷ 1023 ∷ 0 ∷ 0 ∷ 0 ∷ 0 ∷ [])
@@ -725,4 +725,4 @@ pub faults-at-their-edges :
     -- F = 0: the same in pass 0
     × (hand_made 0 ≡ record { answer = after FAULT 2; work = replicate 16 3 ++ replicate 16 9 })
 unfolding the_calls
-faults-at-their-edges = (refl, refl, refl, refl, refl, refl, refl, refl)
+faults_at_their_edges = (refl, refl, refl, refl, refl, refl, refl, refl)

@@ -7,8 +7,8 @@ use Rattle.graph.specs.declared.headers.Header.{Header}
 use Rattle.graph.proofs.form.judge_rows.Invariants.{rows_of}
 use Rattle.graph.proofs.form.judge_rows.Goals as goal
 
-so-in : (h : Header) {nodes : List ℕ} {k now : ℕ} → RowsSo (rows_of nodes h.width h.count) k now → RowsSo (graph_in h nodes) k now
-so-in h so = record { passed = so.passed; wait = so.wait; most = so.most }
+so_in : (h : Header) {nodes : List ℕ} {k now : ℕ} → RowsSo (rows_of nodes h.width h.count) k now → RowsSo (graph_in h nodes) k now
+so_in h so = record { passed = so.passed; wait = so.wait; most = so.most }
 
 pub loop-k-init : goal.loop-k-init
 loop-k-init c = (omega arith, rows_begin _)
@@ -19,7 +19,7 @@ returns-then-not-row_ok c =
     let a = c.args in
     let row = c.row_at-row in
     let ok = c.row_ok in
-    row_range (graph_in a.head a.nodes.now) l.k l.waiting (so-in a.head l.invariant.1) row.result row.ensures ok.result ok.ensures
+    row_range (graph_in a.head a.nodes.now) l.k l.waiting (so_in a.head l.invariant.1) row.result row.ensures ok.result ok.ensures
     (c.if-not-row_ok.true) c.loop-k-test.true
 
 pub returns-then-waiting-taken : goal.returns-then-waiting-taken
@@ -29,7 +29,7 @@ returns-then-waiting-taken c =
     let row = c.row_at-row in
     let ok = c.row_ok in
     let taken = c.takes-taken in
-    row_shape (graph_in a.head a.nodes.now) l.k l.waiting (so-in a.head l.invariant.1) row.result row.ensures ok.result ok.ensures
+    row_shape (graph_in a.head a.nodes.now) l.k l.waiting (so_in a.head l.invariant.1) row.result row.ensures ok.result ok.ensures
     (c.if-not-row_ok.false) taken.result taken.ensures c.if-waiting-taken.true c.loop-k-test.true
 
 pub overflow_add-waiting : goal.overflow_add-waiting
@@ -51,4 +51,4 @@ pub returns : goal.returns
 returns c =
     let l = c.loop-k in
     let a = c.args in
-    rows_end (graph_in a.head a.nodes.now) l.k l.waiting (so-in a.head l.invariant.1) (omega arith)
+    rows_end (graph_in a.head a.nodes.now) l.k l.waiting (so_in a.head l.invariant.1) (omega arith)

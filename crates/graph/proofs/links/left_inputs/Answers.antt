@@ -10,9 +10,9 @@ use Rattle.graph.specs.Links.{inputs, standing, left_of}
 use Rattle.graph.proofs.LinkLaws.{none_stand, stack_next, lefts_none, lefts_next, lefts_all}
 use Rattle.graph.proofs.links.left_inputs.Goals as goal
 
-left-of : (node : ℕ → Node) (k : ℕ) (standing-now : List ℕ) {v : ℕ} → standing-now ≡ standing node k → v ≡ get_or standing-now 1 0 → v ≡ left_of node k
+left_of_lem : (node : ℕ → Node) (k : ℕ) (standing-now : List ℕ) {v : ℕ} → standing-now ≡ standing node k → v ≡ get_or standing-now 1 0 → v ≡ left_of node k
 unfolding left_of
-left-of node k now e h = rw e at h
+left_of_lem node k now e h = rw e at h
 
 pub loop-k-init : goal.loop-k-init
 loop-k-init c = (omega arith, omega arith, refl, none_stand (node_at c.args.nodes.now) [], lefts_none _ _ refl)
@@ -29,7 +29,7 @@ loop-k-preserved c =
       omega arith,
       length-set l.stack rest l.k ∙ long,
       stack_next node l.k rest l.height l.stack l.invariant.3 taken (omega arith),
-      lefts_next node l.k _ l.left l.invariant.4 (omega arith) (left-of node l.k _ l.invariant.3 c.last_but_one-before.ensures),
+      lefts_next node l.k _ l.left l.invariant.4 (omega arith) (left_of_lem node l.k _ l.invariant.3 c.last_but_one-before.ensures),
     )
 
 pub returns : goal.returns
