@@ -57,7 +57,7 @@ pub fn files_right() -> Result<usize, String> {
     Ok(worked.len() + 1)
 }
 
-/// The stored cases of the two programs, which `rt check` runs, are files of ../sheets.
+/// The stored cases of the two programs, which `rt ci` runs, are files of ../sheets.
 fn stored_cases_right() -> Result<(), String> {
     let stored = [
         ("crates/places/stdin", "sheets/paper.sheet"),
