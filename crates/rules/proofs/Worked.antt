@@ -7,6 +7,7 @@ use mathlib.Core.List.{List, [], ◌∷◌, ◌++◌, map, append-nil}
 use native.Mathlib.Omega.{arith}
 use lib.ListN.{length, take, drop, replicate, drop_of_length-le}
 use lib.Seq.{take_all, take_at}
+use Rattle.std.specs.Prelude.{Ok, Err}
 use Rattle.rules.specs.Limits.{vector_bytes}
 use Rattle.rules.specs.Answers.{Answer, at, after, done, first, DONE, ROOM, LINE, RANGE, SHAPE, BARE, WINDOW, ALIGN, BOUNDS, CARRY, OFFSET, LONG, OUT, FAULT}
 use Rattle.rules.specs.Elements.{operate, modulus, negative, signed_less, element}
@@ -28,7 +29,7 @@ use Rattle.rules.specs.Calls.{WithProgram, WithWork, reading, checking, offset_c
 use Rattle.rules.specs.Printing as Printing
 use Rattle.rules.specs.declared.program.ProgramHead.{ProgramHead}
 use Rattle.rules.specs.declared.nodes.Offset.TheVariants.{At, Undefined}
-use Rattle.rules.specs.declared.answers.ReadAnswer.TheVariants.{Done, Line, Range, Shape}
+use Rattle.rules.specs.declared.answers.Refusal.TheVariants.{Line, Range, Shape}
 
 -- ---- what computes: to unfold one of these is to unfold what its line names
 
@@ -104,7 +105,7 @@ figures rule =
 -- and LAZY make one graph; where an op's inputs agree, LAZY moves the root alone
 pub printed_sheet_is_read_and_placed :
     (sheet_of printed ≡ record {
-      answer = Done;
+      answer = Ok tt;
       head = 2 ∷ 100 ∷ 0x0206 ∷ 5 ∷ [];
       nodes = 1 ∷ 1 ∷ 0x0002 ∷ 1 ∷ 0 ∷ 0x000A ∷ 3 ∷ 0 ∷ 0 ∷ 1 ∷ 0 ∷ 0x0102 ∷ 3 ∷ 0 ∷ 0 ∷ [];
     })
@@ -371,25 +372,25 @@ pub reading_names_the_first_line_at_fault :
     -- 9 and F are digits: the end is missing
     ∷ (take 10 header ++ (57 ∷ 70 ∷ 10 ∷ []))
     ∷ [])
-    ≡ Line 1
-    ∷ Shape 2
-    ∷ Line 2
-    ∷ Line 3
-    ∷ Line 8
-    ∷ Line 2
-    ∷ Range 1
-    ∷ Range 2
-    ∷ Shape 2
-    ∷ Shape 4
-    ∷ Shape 3
-    ∷ Done
-    ∷ Shape 66
-    ∷ Line 1
-    ∷ Line 1
-    ∷ Line 1
-    ∷ Line 1
-    ∷ Line 1
-    ∷ Line 2
+    ≡ Err (Line 1)
+    ∷ Err (Shape 2)
+    ∷ Err (Line 2)
+    ∷ Err (Line 3)
+    ∷ Err (Line 8)
+    ∷ Err (Line 2)
+    ∷ Err (Range 1)
+    ∷ Err (Range 2)
+    ∷ Err (Shape 2)
+    ∷ Err (Shape 4)
+    ∷ Err (Shape 3)
+    ∷ Ok tt
+    ∷ Err (Shape 66)
+    ∷ Err (Line 1)
+    ∷ Err (Line 1)
+    ∷ Err (Line 1)
+    ∷ Err (Line 1)
+    ∷ Err (Line 1)
+    ∷ Err (Line 2)
     ∷ []
 unfolding the_reader
 reading_names_the_first_line_at_fault = refl

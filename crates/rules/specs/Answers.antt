@@ -1,22 +1,8 @@
 -- "Numbers the translator gives back": the numbers of the table, an answer with its place and steps, the first refusal of an
--- ordered list of checks, and what each case of each call's answer stands for.
-use Rattle.std.specs.Prelude.{ℕ, zero, suc, List, [], ◌∷◌, ◌++◌, Bool, cond}
-use Rattle.rules.specs.declared.answers.ReadAnswer.{ReadAnswer}
-use Rattle.rules.specs.declared.answers.ReadAnswer.TheVariants as Read
-use Rattle.rules.specs.declared.answers.CheckAnswer.{CheckAnswer}
-use Rattle.rules.specs.declared.answers.CheckAnswer.TheVariants as Check
-use Rattle.rules.specs.declared.answers.OffsetAnswer.{OffsetAnswer}
-use Rattle.rules.specs.declared.answers.OffsetAnswer.TheVariants as Offsets
-use Rattle.rules.specs.declared.answers.PlaceAnswer.{PlaceAnswer}
-use Rattle.rules.specs.declared.answers.PlaceAnswer.TheVariants as Place
-use Rattle.rules.specs.declared.answers.PlainAnswer.{PlainAnswer}
-use Rattle.rules.specs.declared.answers.PlainAnswer.TheVariants as Plain
-use Rattle.rules.specs.declared.answers.TranslateAnswer.{TranslateAnswer}
-use Rattle.rules.specs.declared.answers.TranslateAnswer.TheVariants as Translate
-use Rattle.rules.specs.declared.answers.PlanAnswer.{PlanAnswer}
-use Rattle.rules.specs.declared.answers.PlanAnswer.TheVariants as Plan
-use Rattle.rules.specs.declared.answers.RunAnswer.{RunAnswer}
-use Rattle.rules.specs.declared.answers.RunAnswer.TheVariants as Run
+-- ordered list of checks, and what a call's result stands for.
+use Rattle.std.specs.Prelude.{ℕ, zero, suc, List, [], ◌∷◌, ◌++◌, Bool, cond, Result, Ok, Err}
+use Rattle.rules.specs.declared.answers.Refusal.{Refusal}
+use Rattle.rules.specs.declared.answers.Refusal.TheVariants.{Room, Line, Range, Shape, Bare, Window, Align, Bounds, Carry, Offset, Long, Out, Fault}
 
 -- the table's first two columns
 abbrev pub DONE : ℕ
@@ -97,72 +83,28 @@ abbrev pub each : (ℕ → Answer) → ℕ → List Answer
 each check zero = []
 each check (suc k) = each check k ++ (check k ∷ [])
 
--- the paper's number, place and steps for each case of each call's answer
-abbrev pub of_read : ReadAnswer → Answer
-of_read Read.Done = done
-of_read Read.Room = at ROOM 0
-of_read (Read.Line p) = at LINE p
-of_read (Read.Range p) = at RANGE p
-of_read (Read.Shape p) = at SHAPE p
+-- the paper's number, place and steps for each refusal
+abbrev pub of_refusal : Refusal → Answer
+of_refusal Room = at ROOM 0
+of_refusal (Line p) = at LINE p
+of_refusal (Range p) = at RANGE p
+of_refusal (Shape p) = at SHAPE p
+of_refusal (Bare p) = at BARE p
+of_refusal (Window p) = at WINDOW p
+of_refusal (Align p) = at ALIGN p
+of_refusal (Bounds p) = at BOUNDS p
+of_refusal (Carry p) = at CARRY p
+of_refusal (Offset p) = at OFFSET p
+of_refusal Long = at LONG 0
+of_refusal (Out k) = after OUT k
+of_refusal (Fault k) = after FAULT k
 
-abbrev pub of_check : CheckAnswer → Answer
-of_check Check.Done = done
-of_check Check.Room = at ROOM 0
-of_check (Check.Range p) = at RANGE p
-of_check (Check.Shape p) = at SHAPE p
+-- what a call answers, whatever it gives on done
+abbrev pub of_result : {A : Type 0} → Result A Refusal → Answer
+of_result (Ok a) = done
+of_result (Err r) = of_refusal r
 
-abbrev pub of_offset : OffsetAnswer → Answer
-of_offset Offsets.Done = done
-of_offset Offsets.Room = at ROOM 0
-of_offset (Offsets.Range p) = at RANGE p
-of_offset (Offsets.Shape p) = at SHAPE p
-of_offset (Offsets.Offset p) = at OFFSET p
-
-abbrev pub of_place : PlaceAnswer → Answer
-of_place Place.Done = done
-of_place Place.Room = at ROOM 0
-of_place (Place.Range p) = at RANGE p
-of_place (Place.Shape p) = at SHAPE p
-of_place (Place.Bare p) = at BARE p
-of_place (Place.Align p) = at ALIGN p
-
-abbrev pub of_plain : PlainAnswer → Answer
-of_plain Plain.Done = done
-of_plain Plain.Room = at ROOM 0
-of_plain (Plain.Range p) = at RANGE p
-of_plain (Plain.Shape p) = at SHAPE p
-of_plain (Plain.Window p) = at WINDOW p
-of_plain (Plain.Align p) = at ALIGN p
-of_plain (Plain.Bounds p) = at BOUNDS p
-
-abbrev pub of_translate : TranslateAnswer → Answer
-of_translate Translate.Done = done
-of_translate Translate.Room = at ROOM 0
-of_translate (Translate.Range p) = at RANGE p
-of_translate (Translate.Shape p) = at SHAPE p
-of_translate (Translate.Window p) = at WINDOW p
-of_translate (Translate.Align p) = at ALIGN p
-of_translate (Translate.Bounds p) = at BOUNDS p
-of_translate (Translate.Carry p) = at CARRY p
-of_translate (Translate.Offset p) = at OFFSET p
-of_translate Translate.Long = at LONG 0
-
-abbrev pub of_plan : PlanAnswer → Answer
-of_plan Plan.Done = done
-of_plan Plan.Room = at ROOM 0
-of_plan (Plan.Range p) = at RANGE p
-of_plan (Plan.Shape p) = at SHAPE p
-of_plan (Plan.Bare p) = at BARE p
-of_plan (Plan.Window p) = at WINDOW p
-of_plan (Plan.Align p) = at ALIGN p
-of_plan (Plan.Bounds p) = at BOUNDS p
-of_plan (Plan.Carry p) = at CARRY p
-of_plan (Plan.Offset p) = at OFFSET p
-of_plan Plan.Long = at LONG 0
-
-abbrev pub of_run : RunAnswer → Answer
-of_run (Run.Done k) = after DONE k
-of_run Run.Room = at ROOM 0
-of_run (Run.Window p) = at WINDOW p
-of_run (Run.Out k) = after OUT k
-of_run (Run.Fault k) = after FAULT k
+-- what a run answers: on done the steps that it took
+abbrev pub of_run : Result ℕ Refusal → Answer
+of_run (Ok k) = after DONE k
+of_run (Err r) = of_refusal r

@@ -1,7 +1,7 @@
 -- The calls: the checks of each as one ordered list, the answer, and what it leaves in every lent table and window, for all
 -- inputs. A contract says that everything a call gives and leaves is what stands here, at W = 16.
 use Rattle.std.specs.Prelude.{ℕ, zero, suc, List, [], ◌∷◌, ◌++◌, ◌||◌, length}
-use Rattle.rules.specs.Answers.{Answer, after, first, of_read}
+use Rattle.rules.specs.Answers.{Answer, after, first, of_result}
 use Rattle.rules.specs.Reading.{sheet_of}
 use Rattle.rules.specs.Trees.{Tree, tree_of}
 use Rattle.rules.specs.PlainLoop.{plain}
@@ -36,7 +36,7 @@ pub record WithWork : Type 0 where
 -- ---- reading
 
 abbrev pub read_answer : (text head nodes : List ℕ) → Answer
-read_answer text head nodes = first (room_check (head_short head || nodes_short nodes) ∷ of_read (sheet_of text).answer ∷ [])
+read_answer text head nodes = first (room_check (head_short head || nodes_short nodes) ∷ of_result (sheet_of text).answer ∷ [])
 
 -- "On done the reader's tables hold the header's fields and, node by node in the order of the lines, each frame's kind and
 -- fields"

@@ -1,10 +1,8 @@
 -- "one frame a line, each ended by one line feed": the paper's table of frames, and the frame that stands at a place.
-use Rattle.std.specs.Prelude.{ℕ, zero, suc, ◌+◌, List, cond, get_or, ltb, eqb}
+use Rattle.std.specs.Prelude.{ℕ, zero, suc, ◌+◌, List, cond, get_or, ltb, eqb, Option, Some, None}
 use Rattle.rules.specs.Digits.{digit_run, spelled}
 use Rattle.rules.specs.declared.sheet.FieldDigits.{FieldDigits}
 use Rattle.rules.specs.declared.sheet.Fields.{Fields}
-use Rattle.rules.specs.declared.sheet.Frame.{Frame}
-use Rattle.rules.specs.declared.sheet.Frame.TheVariants.{Bad, Is}
 
 -- the kind bytes
 abbrev pub header_kind : ℕ
@@ -52,13 +50,13 @@ fields_of text at kind w =
     }
 
 -- a frame of a known kind: all its digits are digits, and a line feed, byte 10, stands right after them
-unfoldable pub frame_of : List ℕ → ℕ → ℕ → FieldDigits → Frame
+unfoldable pub frame_of : List ℕ → ℕ → ℕ → FieldDigits → Option Fields
 frame_of text at kind w =
-    cond (ltb (digit_run text at (frame_digits w)) (frame_digits w)) Bad
-    (cond (eqb (get_or text (at + frame_digits w) 0) 10) (Is (fields_of text at kind w)) Bad)
+    cond (ltb (digit_run text at (frame_digits w)) (frame_digits w)) None
+    (cond (eqb (get_or text (at + frame_digits w) 0) 10) (Some (fields_of text at kind w)) None)
 
--- the frame at a place, by its kind byte
-unfoldable pub frame_at : List ℕ → ℕ → Frame
+-- the frame at a place, by its kind byte, if a line of the format stands there
+unfoldable pub frame_at : List ℕ → ℕ → Option Fields
 frame_at text at =
-    cond (ltb (digit_run text at 2) 2) Bad
-    (cond (ltb end_kind (spelled text at 2)) Bad (frame_of text at (spelled text at 2) (field_digits (spelled text at 2))))
+    cond (ltb (digit_run text at 2) 2) None
+    (cond (ltb end_kind (spelled text at 2)) None (frame_of text at (spelled text at 2) (field_digits (spelled text at 2))))

@@ -1,6 +1,7 @@
 pub mod Limits
 pub mod Units
 pub mod Answers
+pub mod Kinds
 pub mod Elements
 pub mod Digits
 pub mod Frames

@@ -1,63 +1,59 @@
 -- "Reading: ROOM, then the first line at fault; on one line 2 before 3 before 4": what each line of a sheet does, and what a
 -- whole sheet gives, for every byte string.
-use Rattle.std.specs.Prelude.{ℕ, zero, suc, ◌+◌, ◌-◌, List, [], ◌∷◌, ◌++◌, cond, ◌&&◌, ◌||◌, length, ltb, leb, eqb}
+use Rattle.std.specs.Prelude.{ℕ, zero, suc, ◌+◌, ◌-◌, List, [], ◌∷◌, ◌++◌, cond, ◌&&◌, ◌||◌, length, ltb, leb, eqb, Option, Some, None, Result, Ok, Err, ⊤}
 use Rattle.rules.specs.Limits.{vector_bytes, nodes_most}
 use Rattle.rules.specs.Frames.{frame_at, header_kind, end_kind}
 use Rattle.rules.specs.Ranges.{head_ok, row_ok, takes}
 use Rattle.rules.specs.declared.sheet.Fields.{Fields}
-use Rattle.rules.specs.declared.sheet.Frame.{Frame}
-use Rattle.rules.specs.declared.sheet.Frame.TheVariants.{Bad, Is}
 use Rattle.rules.specs.declared.sheet.Row.{Row}
 use Rattle.rules.specs.declared.sheet.Cursor.{Cursor}
-use Rattle.rules.specs.declared.sheet.LineStep.{LineStep}
-use Rattle.rules.specs.declared.sheet.LineStep.TheVariants.{Stop, End, Node}
-use Rattle.rules.specs.declared.answers.ReadAnswer.{ReadAnswer}
-use Rattle.rules.specs.declared.answers.ReadAnswer.TheVariants.{Done, Line, Range, Shape}
+use Rattle.rules.specs.declared.sheet.NodeRead.{NodeRead}
+use Rattle.rules.specs.declared.answers.Refusal.{Refusal}
+use Rattle.rules.specs.declared.answers.Refusal.TheVariants.{Line, Range, Shape}
+
+-- What a line does: it refuses; or it ends the sheet, None; or it is a node, after which reading stands elsewhere.
 
 -- a node frame: RANGE, then SHAPE where too few wait or it is the 65th; else what it takes is gone, and it waits itself
-unfoldable pub node_line : (D : ℕ) → Cursor → Fields → LineStep
+unfoldable pub node_line : (D : ℕ) → Cursor → Fields → Result (Option NodeRead) Refusal
 node_line D here f =
     cond (row_ok vector_bytes D f.kind f.x f.y)
-    (cond (ltb here.waiting (takes f.kind) || leb nodes_most here.count) (Stop (Shape here.line))
-    (Node (record { kind = f.kind; x = f.x; y = f.y })
-    (record {
-      at = f.next;
-      line = here.line + 1;
-      count = here.count + 1;
-      waiting = here.waiting - takes f.kind + 1;
-    })))
-    (Stop (Range here.line))
+    (cond (ltb here.waiting (takes f.kind) || leb nodes_most here.count) (Err (Shape here.line))
+    (Ok (Some (record {
+      row = record { kind = f.kind; x = f.x; y = f.y };
+      there = record { at = f.next; line = here.line + 1; count = here.count + 1; waiting = here.waiting - takes f.kind + 1 };
+    }))))
+    (Err (Range here.line))
 
 -- the end frame: SHAPE where its number is wrong or not one waits; "text after end" is LINE at the line after it
-unfoldable pub end_line : List ℕ → Cursor → Fields → LineStep
+unfoldable pub end_line : List ℕ → Cursor → Fields → Result (Option NodeRead) Refusal
 end_line text here f =
     cond (eqb f.x here.count && eqb here.waiting 1)
-    (cond (ltb f.next (length text)) (Stop (Line (here.line + 1))) End)
-    (Stop (Shape here.line))
+    (cond (ltb f.next (length text)) (Err (Line (here.line + 1))) (Ok None))
+    (Err (Shape here.line))
 
 -- a line after the header: no frame is LINE, and so is a "header out of place"
-unfoldable pub line_by : List ℕ → (D : ℕ) → Cursor → Frame → LineStep
-line_by text D here Bad = Stop (Line here.line)
-line_by text D here (Is f) =
+unfoldable pub line_by : List ℕ → (D : ℕ) → Cursor → Option Fields → Result (Option NodeRead) Refusal
+line_by text D here None = Err (Line here.line)
+line_by text D here (Some f) =
     cond (eqb f.kind end_kind) (end_line text here f)
-    (cond (eqb f.kind header_kind) (Stop (Line here.line)) (node_line D here f))
+    (cond (eqb f.kind header_kind) (Err (Line here.line)) (node_line D here f))
 
-unfoldable pub line_at : List ℕ → (D : ℕ) → Cursor → LineStep
+unfoldable pub line_at : List ℕ → (D : ℕ) → Cursor → Result (Option NodeRead) Refusal
 line_at text D here = line_by text D here (frame_at text here.at)
 
 -- how a sheet comes out: the answer; D, n, S and the number of nodes; and the nodes' kinds and fields in the order of the lines
 pub record Sheet : Type 0 where
-  pub answer : ReadAnswer
+  pub answer : Result ⊤ Refusal
   pub head : List ℕ
   pub nodes : List ℕ
 
-abbrev pub refused : ReadAnswer → Sheet
-refused answer = record { answer = answer; head = []; nodes = [] }
+abbrev pub refused : Refusal → Sheet
+refused r = record { answer = Err r; head = []; nodes = [] }
 
-abbrev pub follow : LineStep → Cursor → List ℕ → List ℕ → (Row → Cursor → Sheet) → Sheet
-follow (Stop answer) here head nodes next = refused answer
-follow End here head nodes next = record { answer = Done; head = head ++ here.count ∷ []; nodes = nodes }
-follow (Node row there) here head nodes next = next row there
+abbrev pub follow : Result (Option NodeRead) Refusal → Cursor → List ℕ → List ℕ → (Row → Cursor → Sheet) → Sheet
+follow (Err r) here head nodes next = refused r
+follow (Ok None) here head nodes next = record { answer = Ok tt; head = head ++ here.count ∷ []; nodes = nodes }
+follow (Ok (Some read)) here head nodes next = next read.row read.there
 
 -- the lines from here on, of which so many more may be nodes. A 65th is SHAPE on its own line (node_line), so nothing ever follows
 -- a line that is read with none left
@@ -77,9 +73,9 @@ header_line text f =
     cond (head_ok f.x f.y f.z) (lines_from nodes_most text f.x (fresh f) (f.x ∷ f.y ∷ f.z ∷ []) [])
     (refused (Range 1))
 
-unfoldable pub sheet_by : List ℕ → Frame → Sheet
-sheet_by text Bad = refused (Line 1)
-sheet_by text (Is f) = cond (eqb f.kind header_kind) (header_line text f) (refused (Line 1))
+unfoldable pub sheet_by : List ℕ → Option Fields → Sheet
+sheet_by text None = refused (Line 1)
+sheet_by text (Some f) = cond (eqb f.kind header_kind) (header_line text f) (refused (Line 1))
 
 unfoldable pub sheet_of : List ℕ → Sheet
 sheet_of text = sheet_by text (frame_at text 0)

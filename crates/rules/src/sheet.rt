@@ -1,6 +1,4 @@
-// A loop sheet as it is read: a line's frame, where reading stands, and what a line does to it.
-use crate::answers::ReadAnswer;
-
+// A loop sheet as it is read: a line's frame, its row, and where reading stands.
 // How many digits a kind's fields have, in the order of the line: 0 for a field that the kind has not.
 #[derive(Clone, Copy)]
 pub struct FieldDigits {
@@ -20,13 +18,6 @@ pub struct Fields {
     pub next: u64,
 }
 
-// What stands at a place of the text: a line of the format, or none.
-#[derive(Clone, Copy)]
-pub enum Frame {
-    Bad,
-    Is(Fields),
-}
-
 // A row of the node table: a node frame's kind and fields.
 #[derive(Clone, Copy)]
 pub struct Row {
@@ -44,10 +35,9 @@ pub struct Cursor {
     pub waiting: u64,
 }
 
-// What a line does: it refuses, it ends the sheet, or it is a node, after which reading stands elsewhere.
+// A node frame as it is read: its row, and where reading stands after it.
 #[derive(Clone, Copy)]
-pub enum LineStep {
-    Stop(ReadAnswer),
-    End,
-    Node(Row, Cursor),
+pub struct NodeRead {
+    pub row: Row,
+    pub there: Cursor,
 }

@@ -10,7 +10,8 @@ use lib.Seq.{get_or-take}
 use lib.Dec.{ltb, leb, eqb}
 use borrow.Author.Tests.{lt-ltb, le-ltb, ltb-true, ltb-false, leb-false, eqb-true}
 use Rattle.rules.specs.Limits.{vector_bytes, nodes_most}
-use Rattle.rules.specs.Answers.{DONE, ROOM, of_read, done, first}
+use Rattle.std.specs.Prelude.{Option, Some, None, Result, Ok, Err, ⊤}
+use Rattle.rules.specs.Answers.{Answer, DONE, ROOM, of_refusal, of_result, done, or_else, first}
 use Rattle.rules.specs.Digits.{digit_run, spelled}
 use Rattle.rules.specs.Frames.{field_digits, frame_digits, fields_of, frame_of, frame_at, end_kind, header_kind}
 use Rattle.rules.specs.Ranges.{head_ok, row_ok, takes}
@@ -19,24 +20,22 @@ use Rattle.rules.specs.Tables.{graph_of, padded, table_left}
 use Rattle.rules.specs.Checks.{head_short, nodes_short, room_check, form_check}
 use Rattle.rules.specs.Calls.{read_answer, reading, checking}
 use Rattle.theory.proofs.RowLaws.{length_padded}
+use Rattle.theory.proofs.AnswerLaws.{first_result}
 use Rattle.theory.proofs.FormLaws.{Rows, rows_none, some_row, rows_front, rows_next, Formed, formed_passes, first_done, refuse_done, neither}
 use Rattle.rules.specs.declared.sheet.FieldDigits.{FieldDigits}
 use Rattle.rules.specs.declared.sheet.Fields.{Fields}
-use Rattle.rules.specs.declared.sheet.Frame.{Frame}
-use Rattle.rules.specs.declared.sheet.Frame.TheVariants.{Bad, Is}
 use Rattle.rules.specs.declared.sheet.Row.{Row}
 use Rattle.rules.specs.declared.sheet.Cursor.{Cursor}
-use Rattle.rules.specs.declared.sheet.LineStep.{LineStep}
-use Rattle.rules.specs.declared.sheet.LineStep.TheVariants.{Stop, End, Node}
-use Rattle.rules.specs.declared.answers.ReadAnswer.{ReadAnswer}
-use Rattle.rules.specs.declared.answers.ReadAnswer.TheVariants.{Done, Room, Line, Range, Shape}
+use Rattle.rules.specs.declared.sheet.NodeRead.{NodeRead}
+use Rattle.rules.specs.declared.answers.Refusal.{Refusal}
+use Rattle.rules.specs.declared.answers.Refusal.TheVariants.{Room, Line, Range, Shape, Bare, Window, Align, Bounds, Carry, Offset, Long, Out, Fault}
 
 -- ---- a line takes at most 27 bytes
 
 -- what follows a frame is not past b
-abbrev pub Within : ℕ → Frame → Type 0
-Within b Bad = Unit {0}
-Within b (Is f) = f.next ≤ b
+abbrev pub Within : ℕ → Option Fields → Type 0
+Within b None = Unit {0}
+Within b (Some f) = f.next ≤ b
 
 -- a splat, the longest frame, has 18 digits
 pub frame_digits_most : (kind : ℕ) → frame_digits (field_digits kind) ≤ 18
@@ -54,7 +53,7 @@ frame_of_within text at kind =
     let n : ℕ = frame_digits (field_digits kind) in
     go (ltb (digit_run text at n) n) (eqb (get_or text (at + n) 0) 10)
   where
-    go : (short feed : Bool) → Within (at + 27) (cond short Bad (cond feed (Is (fields_of text at kind (field_digits kind))) Bad))
+    go : (short feed : Bool) → Within (at + 27) (cond short None (cond feed (Some (fields_of text at kind (field_digits kind))) None))
     go true feed = tt
     go false true = omega (arith, frame_digits_most kind)
     go false false = tt
@@ -64,7 +63,7 @@ unfolding frame_at
 frame_within text at = go (ltb (digit_run text at 2) 2) (ltb end_kind (spelled text at 2))
   where
     go : (short unknown : Bool)
-        → Within (at + 27) (cond short Bad (cond unknown Bad (frame_of text at (spelled text at 2) (field_digits (spelled text at 2)))))
+        → Within (at + 27) (cond short None (cond unknown None (frame_of text at (spelled text at 2) (field_digits (spelled text at 2)))))
     go true unknown = tt
     go false true = tt
     go false false = frame_of_within text at (spelled text at 2)
@@ -82,10 +81,10 @@ pub record NodeAfter (D : ℕ) (here : Cursor) (b : ℕ) (row : Row) (there : Cu
   pub room : here.count < nodes_most
 
 -- a line that stops refuses, and not for room, there or right after it; at the end exactly one waits
-abbrev pub LineDoes : ℕ → Cursor → ℕ → LineStep → Type 0
-LineDoes D here b (Stop answer) = (ROOM < (of_read answer).number) × ((of_read answer).place ≤ here.line + 1)
-LineDoes D here b End = here.waiting ≡ 1
-LineDoes D here b (Node row there) = NodeAfter D here b row there
+abbrev pub LineDoes : ℕ → Cursor → ℕ → Result (Option NodeRead) Refusal → Type 0
+LineDoes D here b (Err r) = (ROOM < (of_refusal r).number) × ((of_refusal r).place ≤ here.line + 1)
+LineDoes D here b (Ok None) = here.waiting ≡ 1
+LineDoes D here b (Ok (Some read)) = NodeAfter D here b read.row read.there
 
 node_line_does : (D b : ℕ) (here : Cursor) (f : Fields) → f.next ≤ b → LineDoes D here b (node_line D here f)
 unfolding node_line
@@ -96,15 +95,12 @@ node_line_does D b here f h =
         → (full : Bool) → leb nodes_most here.count ≡ full
         → LineDoes D here b
         (cond ok
-        (cond (few || full) (Stop (Shape here.line))
-        (Node (record { kind = f.kind; x = f.x; y = f.y })
-        (record {
-          at = f.next;
-          line = here.line + 1;
-          count = here.count + 1;
-          waiting = here.waiting - takes f.kind + 1;
-        })))
-        (Stop (Range here.line)))
+        (cond (few || full) (Err (Shape here.line))
+        (Ok (Some (record {
+          row = record { kind = f.kind; x = f.x; y = f.y };
+          there = record { at = f.next; line = here.line + 1; count = here.count + 1; waiting = here.waiting - takes f.kind + 1 };
+        }))))
+        (Err (Range here.line)))
     go false o few p full q = omega arith
     go true o true p full q = omega arith
     go true o false p true q = omega arith
@@ -124,18 +120,18 @@ unfolding end_line
 end_line_does text D b here f = go (eqb f.x here.count) (eqb here.waiting 1) refl (ltb f.next (length text))
   where
     go : (counted one : Bool) → eqb here.waiting 1 ≡ one → (more : Bool)
-        → LineDoes D here b (cond (counted && one) (cond more (Stop (Line (here.line + 1))) End) (Stop (Shape here.line)))
+        → LineDoes D here b (cond (counted && one) (cond more (Err (Line (here.line + 1))) (Ok None)) (Err (Shape here.line)))
     go true true e true = omega arith
     go true true e false = eqb-true here.waiting 1 e
     go true false e more = omega arith
     go false one e more = omega arith
 
-line_by_does : (text : List ℕ) (D b : ℕ) (here : Cursor) (frame : Frame) → Within b frame → LineDoes D here b (line_by text D here frame)
+line_by_does : (text : List ℕ) (D b : ℕ) (here : Cursor) (frame : Option Fields) → Within b frame → LineDoes D here b (line_by text D here frame)
 unfolding line_by
-line_by_does text D b here Bad h = omega arith
-line_by_does text D b here (Is f) h = go (eqb f.kind end_kind) (eqb f.kind header_kind)
+line_by_does text D b here None h = omega arith
+line_by_does text D b here (Some f) h = go (eqb f.kind end_kind) (eqb f.kind header_kind)
   where
-    go : (last header : Bool) → LineDoes D here b (cond last (end_line text here f) (cond header (Stop (Line here.line)) (node_line D here f)))
+    go : (last header : Bool) → LineDoes D here b (cond last (end_line text here f) (cond header (Err (Line here.line)) (node_line D here f)))
     go true header = end_line_does text D b here f
     go false true = omega arith
     go false false = node_line_does D b here f h
@@ -187,11 +183,11 @@ module _ (n : ℕ) (text : List ℕ) where
       go true e = lt-ltb i (min n (length text)) (omega (arith, ltb-true i (length text) e)) ∙ sym e
       go false e = le-ltb i (min n (length text)) (omega (arith, ltb-false i (length text) e)) ∙ sym e
 
-  line_by_take : (D b : ℕ) (here : Cursor) (frame : Frame) → Within b frame → b < n
+  line_by_take : (D b : ℕ) (here : Cursor) (frame : Option Fields) → Within b frame → b < n
       → line_by (take n text) D here frame ≡ line_by text D here frame
   unfolding line_by end_line
-  line_by_take D b here Bad w h = refl
-  line_by_take D b here (Is f) w h = rw (text_after_take f.next (omega arith))
+  line_by_take D b here None w h = refl
+  line_by_take D b here (Some f) w h = rw (text_after_take f.next (omega arith))
 
   line_take : (D : ℕ) (here : Cursor) → here.at + 28 ≤ n → line_at (take n text) D here ≡ line_at text D here
   unfolding line_at
@@ -199,12 +195,12 @@ module _ (n : ℕ) (text : List ℕ) where
       rw (frame_take here.at (omega arith))
       (line_by_take D (here.at + 27) here (frame_at text here.at) (frame_within text here.at) (omega arith))
 
-  follow_same : (D b : ℕ) (here : Cursor) (head nodes : List ℕ) (step : LineStep) (k l : Row → Cursor → Sheet) → LineDoes D here b step
+  follow_same : (D b : ℕ) (here : Cursor) (head nodes : List ℕ) (step : Result (Option NodeRead) Refusal) (k l : Row → Cursor → Sheet) → LineDoes D here b step
       → ((row : Row) (there : Cursor) → there.at ≤ b → k row there ≡ l row there)
       → follow step here head nodes k ≡ follow step here head nodes l
-  follow_same D b here head nodes (Stop answer) k l f h = refl
-  follow_same D b here head nodes End k l f h = refl
-  follow_same D b here head nodes (Node row there) k l f h = h row there f.at
+  follow_same D b here head nodes (Err r) k l f h = refl
+  follow_same D b here head nodes (Ok None) k l f h = refl
+  follow_same D b here head nodes (Ok (Some read)) k l f h = h read.row read.there f.at
 
   lines_take : (more D : ℕ) (here : Cursor) (head nodes : List ℕ) → here.at + 27 * more + 28 ≤ n
       → lines_from more (take n text) D here head nodes ≡ lines_from more text D here head nodes
@@ -216,10 +212,10 @@ module _ (n : ℕ) (text : List ℕ) where
       (λ row there p. lines_take more D there head _ (omega arith)))
 
   -- a header, 64 nodes and the end, 27 bytes each at the most, and the byte after them
-  sheet_by_take : (frame : Frame) → Within 27 frame → 1783 ≤ n → sheet_by (take n text) frame ≡ sheet_by text frame
+  sheet_by_take : (frame : Option Fields) → Within 27 frame → 1783 ≤ n → sheet_by (take n text) frame ≡ sheet_by text frame
   unfolding sheet_by header_line
-  sheet_by_take Bad w h = refl
-  sheet_by_take (Is f) w h = rw (lines_take 64 f.x (fresh f) (f.x ∷ f.y ∷ f.z ∷ []) [] (omega arith))
+  sheet_by_take None w h = refl
+  sheet_by_take (Some f) w h = rw (lines_take 64 f.x (fresh f) (f.x ∷ f.y ∷ f.z ∷ []) [] (omega arith))
 
 pub first_bytes_decide : (text : List ℕ) → sheet_of (take 2048 text) ≡ sheet_of text
 unfolding sheet_of
@@ -232,20 +228,20 @@ reading_first_bytes text head nodes = rw (first_bytes_decide text)
 
 -- ---- what holds of the lines, by what each does
 
-follow_holds : (P : Sheet → Type 0) (D b : ℕ) (here : Cursor) (head nodes : List ℕ) (step : LineStep) (next : Row → Cursor → Sheet)
+follow_holds : (P : Sheet → Type 0) (D b : ℕ) (here : Cursor) (head nodes : List ℕ) (step : Result (Option NodeRead) Refusal) (next : Row → Cursor → Sheet)
     → LineDoes D here b step
-    → ((answer : ReadAnswer) → ROOM < (of_read answer).number → (of_read answer).place ≤ here.line + 1 → P (refused answer))
-    → (here.waiting ≡ 1 → P (record { answer = Done; head = head ++ here.count ∷ []; nodes = nodes }))
+    → ((r : Refusal) → ROOM < (of_refusal r).number → (of_refusal r).place ≤ here.line + 1 → P (refused r))
+    → (here.waiting ≡ 1 → P (record { answer = Ok tt; head = head ++ here.count ∷ []; nodes = nodes }))
     → ((row : Row) (there : Cursor) → NodeAfter D here b row there → P (next row there))
     → P (follow step here head nodes next)
-follow_holds P D b here head nodes (Stop answer) next f stop end node = stop answer f.0 f.1
-follow_holds P D b here head nodes End next f stop end node = end f
-follow_holds P D b here head nodes (Node row there) next f stop end node = node row there f
+follow_holds P D b here head nodes (Err r) next f stop end node = stop r f.0 f.1
+follow_holds P D b here head nodes (Ok None) next f stop end node = end f
+follow_holds P D b here head nodes (Ok (Some read)) next f stop end node = node read.row read.there f
 
 -- ---- places: nodes on lines 2 to 65, the end or a 65th node on line 66, text after the end on line 67
 
 abbrev PlaceMost : Sheet → Type 0
-PlaceMost sheet = (of_read sheet.answer).place ≤ 67
+PlaceMost sheet = (of_result sheet.answer).place ≤ 67
 
 line_place : (text : List ℕ) (D : ℕ) (here : Cursor) (head nodes : List ℕ) (next : Row → Cursor → Sheet) → here.line ≤ 66
     → ((row : Row) (there : Cursor) → there.line ≡ here.line + 1 → PlaceMost (next row there))
@@ -261,10 +257,10 @@ lines_place zero text D here head nodes h = line_place text D here head nodes _ 
 lines_place (suc more) text D here head nodes h =
     line_place text D here head nodes _ (omega arith) (λ row there n. lines_place more text D there head _ (omega arith))
 
-sheet_by_place : (text : List ℕ) (frame : Frame) → PlaceMost (sheet_by text frame)
+sheet_by_place : (text : List ℕ) (frame : Option Fields) → PlaceMost (sheet_by text frame)
 unfolding sheet_by header_line
-sheet_by_place text Bad = omega arith
-sheet_by_place text (Is f) = go (eqb f.kind header_kind) (head_ok f.x f.y f.z)
+sheet_by_place text None = omega arith
+sheet_by_place text (Some f) = go (eqb f.kind header_kind) (head_ok f.x f.y f.z)
   where
     lines : Sheet
     lines = lines_from nodes_most text f.x (fresh f) (f.x ∷ f.y ∷ f.z ∷ []) []
@@ -274,21 +270,22 @@ sheet_by_place text (Is f) = go (eqb f.kind header_kind) (head_ok f.x f.y f.z)
     go true false = omega arith
     go false ok = omega arith
 
-pub place_at_most : (text : List ℕ) → (of_read (sheet_of text).answer).place ≤ 67
+pub place_at_most : (text : List ℕ) → (of_result (sheet_of text).answer).place ≤ 67
 unfolding sheet_of
 place_at_most text = sheet_by_place text (frame_at text 0)
+
+either_place : (number : ℕ) (one other : Answer) → one.place ≤ 67 → other.place ≤ 67 → (or_else number one other).place ≤ 67
+either_place zero one other p q = q
+either_place (suc number) one other p q = p
 
 pub reading_place : (text head nodes : List ℕ) → (reading text head nodes).answer.place ≤ 67
 unfolding reading first
 reading_place text head nodes = go (head_short head || nodes_short nodes) (sheet_of text).answer (place_at_most text)
   where
-    go : (short : Bool) (answer : ReadAnswer) → (of_read answer).place ≤ 67 → (first (room_check short ∷ of_read answer ∷ [])).place ≤ 67
+    go : (short : Bool) (answer : Result ⊤ Refusal) → (of_result answer).place ≤ 67
+        → (first (room_check short ∷ of_result answer ∷ [])).place ≤ 67
     go true answer h = omega arith
-    go false Done h = omega arith
-    go false Room h = omega arith
-    go false (Line p) h = h
-    go false (Range p) h = h
-    go false (Shape p) h = h
+    go false answer h = either_place (of_result answer).number (of_result answer) done h (omega arith)
 
 -- ---- a refusal of a text leaves nothing of it
 
@@ -296,15 +293,17 @@ reading_place text head nodes = go (head_short head || nodes_short nodes) (sheet
 abbrev Laid : Sheet → Type 0
 Laid sheet =
     (before : List ℕ)
-    → (table_left (of_read sheet.answer).number before sheet.head ≡ padded (length before) sheet.head)
-    × (table_left (of_read sheet.answer).number before sheet.nodes ≡ padded (length before) sheet.nodes)
+    → (table_left (of_result sheet.answer).number before sheet.head ≡ padded (length before) sheet.head)
+    × (table_left (of_result sheet.answer).number before sheet.nodes ≡ padded (length before) sheet.nodes)
 
-refused_laid : (answer : ReadAnswer) → ROOM < (of_read answer).number → Laid (refused answer)
-refused_laid Done h = absurd (omega arith)
-refused_laid Room h = absurd (omega arith)
-refused_laid (Line p) h = λ before. (refl, refl)
-refused_laid (Range p) h = λ before. (refl, refl)
-refused_laid (Shape p) h = λ before. (refl, refl)
+refused_laid : (r : Refusal) → ROOM < (of_refusal r).number → Laid (refused r)
+refused_laid r h before = go (of_refusal r).number h
+  where
+    go : (number : ℕ) → ROOM < number
+        → (table_left number before [] ≡ padded (length before) []) × (table_left number before [] ≡ padded (length before) [])
+    go zero h = absurd (omega arith)
+    go (suc zero) h = absurd (omega arith)
+    go (suc (suc number)) h = (refl, refl)
 
 lines_laid : (more : ℕ) (text : List ℕ) (D : ℕ) (here : Cursor) (head nodes : List ℕ) → Laid (lines_from more text D here head nodes)
 unfolding lines_from
@@ -315,10 +314,10 @@ lines_laid (suc more) text D here head nodes =
     follow_holds Laid D _ here head nodes (line_at text D here) _ (line_does text D here)
     (λ answer r p. refused_laid answer r) (λ one before. (refl, refl)) (λ row there n. lines_laid more text D there head _)
 
-sheet_by_laid : (text : List ℕ) (frame : Frame) → Laid (sheet_by text frame)
+sheet_by_laid : (text : List ℕ) (frame : Option Fields) → Laid (sheet_by text frame)
 unfolding sheet_by header_line
-sheet_by_laid text Bad = refused_laid (Line 1) (omega arith)
-sheet_by_laid text (Is f) = go (eqb f.kind header_kind) (head_ok f.x f.y f.z)
+sheet_by_laid text None = refused_laid (Line 1) (omega arith)
+sheet_by_laid text (Some f) = go (eqb f.kind header_kind) (head_ok f.x f.y f.z)
   where
     lines : Sheet
     lines = lines_from nodes_most text f.x (fresh f) (f.x ∷ f.y ∷ f.z ∷ []) []
@@ -328,25 +327,16 @@ sheet_by_laid text (Is f) = go (eqb f.kind header_kind) (head_ok f.x f.y f.z)
     go true false = refused_laid (Range 1) (omega arith)
     go false ok = refused_laid (Line 1) (omega arith)
 
--- a text's answer, where no check comes after it
-last_read : (answer : ReadAnswer) → first (of_read answer ∷ []) ≡ of_read answer
-unfolding first
-last_read Done = refl
-last_read Room = refl
-last_read (Line p) = refl
-last_read (Range p) = refl
-last_read (Shape p) = refl
-
 -- so where the tables have room a call leaves the sheet
 pub reading_leaves_sheet : (text head nodes : List ℕ) → head_short head ≡ false → nodes_short nodes ≡ false
     → let s = sheet_of text in
-    record { answer = of_read s.answer; head = padded (length head) s.head; nodes = padded (length nodes) s.nodes }
+    record { answer = of_result s.answer; head = padded (length head) s.head; nodes = padded (length nodes) s.nodes }
     ≡ reading text head nodes
 unfolding reading sheet_of first
 reading_leaves_sheet text head nodes h n =
     let s : Sheet = sheet_by text (frame_at text 0) in
     let laid : Laid s = sheet_by_laid text (frame_at text 0) in
-    rw (h, n, last_read s.answer, (laid head).0, (laid nodes).1)
+    rw (h, n, first_result s.answer, (laid head).0, (laid nodes).1)
 
 -- ---- a text that reads done
 
@@ -363,10 +353,7 @@ record Ended (D : ℕ) (head : List ℕ) (sheet : Sheet) : Type 0 where
   held : Held D N 1 sheet.nodes
 
 abbrev DoneEnded : ℕ → List ℕ → Sheet → Type 0
-DoneEnded D head sheet = sheet.answer ≡ Done → Ended D head sheet
-
-refused_not_done : (answer : ReadAnswer) → ROOM < (of_read answer).number → answer ≡ Done → ⊥
-refused_not_done answer h e = let z : ROOM < 0 = rw e at h in omega arith
+DoneEnded D head sheet = (of_result sheet.answer).number ≡ DONE → Ended D head sheet
 
 held_next : (D b : ℕ) (here : Cursor) (nodes : List ℕ) (row : Row) (there : Cursor) → Held D here.count here.waiting nodes
     → NodeAfter D here b row there → Held D there.count there.waiting (nodes ++ row.kind ∷ row.x ∷ row.y ∷ [])
@@ -385,7 +372,7 @@ line_ended : (text : List ℕ) (D : ℕ) (here : Cursor) (head nodes : List ℕ)
     → DoneEnded D head (follow (line_at text D here) here head nodes next)
 line_ended text D here head nodes next h node =
     follow_holds (DoneEnded D head) D _ here head nodes (line_at text D here) next (line_does text D here)
-    (λ answer r p e. absurd (refused_not_done answer r e))
+    (λ r above p e. absurd (omega arith))
     (λ one e. record { N = here.count; heads = refl; held = rw one at h })
     (λ row there n. node row there (held_next D _ here nodes row there h n))
 
@@ -393,7 +380,7 @@ lines_ended : (more : ℕ) (text : List ℕ) (D : ℕ) (here : Cursor) (head nod
     → DoneEnded D head (lines_from more text D here head nodes)
 unfolding lines_from
 lines_ended zero text D here head nodes h =
-    line_ended text D here head nodes _ h (λ row there n e. absurd (refused_not_done (Shape here.line) (omega arith) e))
+    line_ended text D here head nodes _ h (λ row there n e. absurd (omega arith))
 lines_ended (suc more) text D here head nodes h = line_ended text D here head nodes _ h (λ row there n. lines_ended more text D there head _ n)
 
 -- "1 to 64 of them", "At the end exactly one waits", and every field in its range
@@ -409,16 +396,16 @@ pub record DoneSheet (sheet : Sheet) : Type 0 where
   pub long : length sheet.nodes ≡ 3 * N
   pub rows : Rows vector_bytes D N 1 sheet.nodes
 
-sheet_by_done : (text : List ℕ) (frame : Frame) → (sheet_by text frame).answer ≡ Done → DoneSheet (sheet_by text frame)
+sheet_by_done : (text : List ℕ) (frame : Option Fields) → (of_result (sheet_by text frame).answer).number ≡ DONE → DoneSheet (sheet_by text frame)
 unfolding sheet_by header_line
-sheet_by_done text Bad e = absurd (refused_not_done (Line 1) (omega arith) e)
-sheet_by_done text (Is f) e = go (eqb f.kind header_kind) (head_ok f.x f.y f.z) refl e
+sheet_by_done text None e = absurd (omega arith)
+sheet_by_done text (Some f) e = go (eqb f.kind header_kind) (head_ok f.x f.y f.z) refl e
   where
     lines : Sheet
     lines = lines_from nodes_most text f.x (fresh f) (f.x ∷ f.y ∷ f.z ∷ []) []
 
     go : (header ok : Bool) → head_ok f.x f.y f.z ≡ ok
-        → (cond header (cond ok lines (refused (Range 1))) (refused (Line 1))).answer ≡ Done
+        → (of_result (cond header (cond ok lines (refused (Range 1))) (refused (Line 1))).answer).number ≡ DONE
         → DoneSheet (cond header (cond ok lines (refused (Range 1))) (refused (Line 1)))
     go true true o e =
         let none : Held f.x 0 0 [] = record { most = omega arith; long = refl; rows = rows_none vector_bytes f.x [] } in
@@ -435,10 +422,10 @@ sheet_by_done text (Is f) e = go (eqb f.kind header_kind) (head_ok f.x f.y f.z) 
           long = d.held.long;
           rows = d.held.rows;
         }
-    go true false o e = absurd (refused_not_done (Range 1) (omega arith) e)
-    go false ok o e = absurd (refused_not_done (Line 1) (omega arith) e)
+    go true false o e = absurd (omega arith)
+    go false ok o e = absurd (omega arith)
 
-pub done_sheet : (text : List ℕ) → (sheet_of text).answer ≡ Done → DoneSheet (sheet_of text)
+pub done_sheet : (text : List ℕ) → (of_result (sheet_of text).answer).number ≡ DONE → DoneSheet (sheet_of text)
 unfolding sheet_of
 done_sheet text e = sheet_by_done text (frame_at text 0) e
 
@@ -451,20 +438,13 @@ done_formed sheet rest_head rest_nodes d =
     rw d.heads
     (record { head = d.in_range; most = d.most; rows = rows_front vector_bytes d.D d.N 1 sheet.nodes rest_nodes d.long d.rows })
 
-pub read_is_checked : (text : List ℕ) → (sheet_of text).answer ≡ Done
+pub read_is_checked : (text : List ℕ) → (of_result (sheet_of text).answer).number ≡ DONE
     → form_check vector_bytes (graph_of (sheet_of text).head (sheet_of text).nodes) ≡ done
 read_is_checked text e =
     formed_passes vector_bytes _
     (rw (append-nil (sheet_of text).head, append-nil (sheet_of text).nodes) at (done_formed (sheet_of text) [] [] (done_sheet text e)))
 
 -- ---- the call
-
-number_done : (answer : ReadAnswer) → (of_read answer).number ≡ DONE → answer ≡ Done
-number_done Done h = refl
-number_done Room h = absurd (omega arith)
-number_done (Line p) h = absurd (omega arith)
-number_done (Range p) h = absurd (omega arith)
-number_done (Shape p) h = absurd (omega arith)
 
 -- where it is done both tables have room, and the text reads done
 pub record ReadingDone (text head nodes : List ℕ) : Type 0 where
@@ -475,10 +455,10 @@ pub record ReadingDone (text head nodes : List ℕ) : Type 0 where
 pub reading_done : (text head nodes : List ℕ) → (reading text head nodes).answer.number ≡ DONE → ReadingDone text head nodes
 unfolding reading
 reading_done text head nodes h =
-    let room = first_done (room_check (head_short head || nodes_short nodes)) (of_read (sheet_of text).answer ∷ []) h in
-    let read = first_done (of_read (sheet_of text).answer) [] room.1 in
+    let room = first_done (room_check (head_short head || nodes_short nodes)) (of_result (sheet_of text).answer ∷ []) h in
+    let read = first_done (of_result (sheet_of text).answer) [] room.1 in
     let short = neither _ _ (refuse_done _ 0 0 room.0) in
-    record { head_room = short.0; nodes_room = short.1; sheet = done_sheet text (number_done (sheet_of text).answer read.0) }
+    record { head_room = short.0; nodes_room = short.1; sheet = done_sheet text read.0 }
 
 -- so what was read fits
 head_fits : (text head nodes : List ℕ) → ReadingDone text head nodes → length (padded (length head) (sheet_of text).head) ≡ length head
