@@ -7,20 +7,20 @@ use native.Mathlib.Omega.{arith}
 use borrow.Author.Tests.{ltb-false}
 use lib.Dec.{ltb, eqb}
 use lib.ListN.{get_or}
+use Rattle.std.specs.Prelude.{Ok, Err}
 use Rattle.rules.specs.Limits.{vector_bytes, nodes_most}
 use Rattle.rules.specs.Units.{width_bytes}
-use Rattle.rules.specs.Answers.{RANGE, SHAPE, at, refuse_if, first, each, of_check}
+use Rattle.rules.specs.Answers.{RANGE, SHAPE, at, refuse_if, first, each, of_refusal}
 use Rattle.rules.specs.Tables.{graph_of}
 use Rattle.rules.specs.Checks.{store_line, head_short, nodes_short, line, waits, row_check, end_check, form_check}
 use Rattle.rules.specs.Calls.{checking}
-use Rattle.rules.specs.declared.answers.CheckAnswer.{CheckAnswer}
+use Rattle.rules.specs.declared.answers.Refusal.{Refusal}
 use Rattle.theory.proofs.FormLaws.{Formed, first_each}
 use Rattle.theory.proofs.Firsts.{form_alone}
 use Rattle.theory.proofs.Checked.{head_passes}
 use Rattle.ranges.proofs.RangeLaws.{width_back_lem}
 use Rattle.graph.specs.Headers.{head_in_range, header_of, graph_in}
 use Rattle.graph.specs.Forms.{RowsFound, end_found}
-use Rattle.graph.specs.declared.form.Rows.TheVariants.{Refused, Waiting}
 
 pub header_width : (head : List ℕ) → head_in_range head ≡ true → width_bytes (header_of head).width ≡ get_or head 0 0
 header_width head e = width_back_lem (get_or head 0 0) (head_passes (get_or head 0 0) (get_or head 1 0) (get_or head 2 0) e).width
@@ -66,11 +66,11 @@ module _ (head nodes : List ℕ) where
     unfolding form_check first
     head_passed = rw fine
 
-    pub rows_refused : (answer : CheckAnswer) → RowsFound (graph_in (header_of head) nodes) (Refused answer)
-        → form_check vector_bytes (graph_of head nodes) ≡ of_check answer
-    rows_refused answer found = head_passed ∙ rw (header_width head fine) at (found (end_check (graph_of head nodes) ∷ []))
+    pub rows_refused : (refusal : Refusal) → RowsFound (graph_in (header_of head) nodes) (Err refusal)
+        → form_check vector_bytes (graph_of head nodes) ≡ of_refusal refusal
+    rows_refused refusal found = head_passed ∙ rw (header_width head fine) at (found (end_check (graph_of head nodes) ∷ []))
 
-    pub rows_waiting : (now : ℕ) → RowsFound (graph_in (header_of head) nodes) (Waiting now)
+    pub rows_waiting : (now : ℕ) → RowsFound (graph_in (header_of head) nodes) (Ok now)
         → form_check vector_bytes (graph_of head nodes) ≡ end_found (get_or head 3 0) now
     rows_waiting now found =
         head_passed

@@ -3,15 +3,16 @@ use mathlib.Core.Path.{◌≡◌, sym, ◌∙◌}
 use mathlib.Core.List.{List}
 use Prim.Native.Nat.{ℕ}
 use Rattle.rules.specs.Limits.{vector_bytes}
-use Rattle.rules.specs.Answers.{of_check}
+use Rattle.rules.specs.Answers.{of_result}
 use Rattle.rules.specs.Calls.{checking}
-use Rattle.rules.specs.declared.answers.CheckAnswer.{CheckAnswer}
-use Rattle.theory.proofs.AnswerLaws.{check_told_apart}
+use Rattle.std.specs.Prelude.{Result, ⊤}
+use Rattle.rules.specs.declared.answers.Refusal.{Refusal}
+use Rattle.theory.proofs.AnswerLaws.{result_told_apart}
 
 module _ (head nodes : List ℕ) where
   -- the contract of `check`, of an answer
-  abbrev pub Allowed : CheckAnswer → Type 0
-  Allowed r = of_check r ≡ checking vector_bytes head nodes
+  abbrev pub Allowed : Result ⊤ Refusal → Type 0
+  Allowed r = of_result r ≡ checking vector_bytes head nodes
 
-  pub one_outcome : (r s : CheckAnswer) → Allowed r → Allowed s → r ≡ s
-  one_outcome r s a b = check_told_apart r s (a ∙ sym b)
+  pub one_outcome : (r s : Result ⊤ Refusal) → Allowed r → Allowed s → r ≡ s
+  one_outcome r s a b = result_told_apart r s (a ∙ sym b)

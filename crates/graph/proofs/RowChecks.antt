@@ -6,6 +6,7 @@ use mathlib.Core.Bool.{Bool, true, false}
 use native.Mathlib.Numerals.{add-one}
 use native.Mathlib.Omega.{arith}
 use borrow.Author.Tests.{lt-ltb, le-ltb}
+use Rattle.std.specs.Prelude.{Ok, Err}
 use Rattle.rules.specs.Limits.{vector_bytes}
 use Rattle.rules.specs.Answers.{first}
 use Rattle.rules.specs.Ranges.{row_ok, takes}
@@ -16,8 +17,7 @@ use Rattle.theory.proofs.Firsts.{Passed, passed_none, passed_next, passed_refuse
 use Rattle.rules.specs.declared.sheet.Row.{Row}
 use Rattle.tables.specs.Rows.{row_at}
 use Rattle.graph.specs.Forms.{RowsFound}
-use Rattle.graph.specs.declared.form.Rows.TheVariants.{Refused, Waiting}
-use Rattle.rules.specs.declared.answers.CheckAnswer.TheVariants.{Range, Shape}
+use Rattle.rules.specs.declared.answers.Refusal.TheVariants.{Range, Shape}
 
 module _ (g : Graph) where
   -- the first k rows pass, and so many wait after them
@@ -39,7 +39,7 @@ module _ (g : Graph) where
     range : row_ok vector_bytes g.D kind (cell g.nodes k 1) (cell g.nodes k 2) ≡ ok
     range = sym (rw read at judged)
 
-    pub row_range : ok ≡ false → k < g.N → RowsFound g (Refused (Range (line k)))
+    pub row_range : ok ≡ false → k < g.N → RowsFound g (Err (Range (line k)))
     unfolding first
     row_range e h later =
         passed_refused (row_check vector_bytes g) g.N k later 2 (line k) so.passed h (rw (range, e))
@@ -48,7 +48,7 @@ module _ (g : Graph) where
       takes_kind : taken ≡ takes kind
       takes_kind = rw read at takes-so
 
-      pub row_shape : now < taken → k < g.N → RowsFound g (Refused (Shape (line k)))
+      pub row_shape : now < taken → k < g.N → RowsFound g (Err (Shape (line k)))
       unfolding first
       row_shape few h later =
           let f : waits g.nodes k < takes kind = rw (so.wait, takes_kind) at few in
@@ -65,6 +65,6 @@ module _ (g : Graph) where
             most = omega (arith, so.most);
           }
 
-  pub rows_end : (k now : ℕ) → RowsSo k now → k ≡ g.N → RowsFound g (Waiting now)
+  pub rows_end : (k now : ℕ) → RowsSo k now → k ≡ g.N → RowsFound g (Ok now)
   unfolding Passed
   rows_end k now so e = (rw e at so.passed, rw (← e) so.wait)

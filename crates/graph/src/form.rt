@@ -1,25 +1,18 @@
 // "Checked by 3 and 4 as if read": the header, then the rows in their order, then the end.
 ghost use Rattle.std.specs.Prelude.{◌≡◌};
 ghost use Rattle.rules.specs.Limits.{vector_bytes};
-ghost use Rattle.rules.specs.Answers.{of_check};
+ghost use Rattle.rules.specs.Answers.{of_result};
 ghost use Rattle.rules.specs.Tables.{graph_of};
 ghost use Rattle.rules.specs.Checks.{form_check};
 ghost use Rattle.graph.specs.Headers.{graph_in};
 ghost use Rattle.graph.specs.Forms.{RowsFound, end_found};
 
 use crate::headers::{Header, count_in, header_of, in_range};
-use rules::answers::CheckAnswer;
+use rules::answers::Refusal;
 use rules::limits::{FIRST_NODE_LINE, HEADER_LINE, NODES};
 
-// What the rows come to: a refusal, or how many nodes wait after them.
-#[derive(Clone, Copy)]
-pub(crate) enum Rows {
-    Refused(CheckAnswer),
-    Waiting(u64),
-}
-
-// The rows in their order: on each RANGE before SHAPE.
-fn judge_rows(head: Header, nodes: &[u64]) -> Rows
+// The rows in their order, on each RANGE before SHAPE: how many nodes wait after them.
+fn judge_rows(head: Header, nodes: &[u64]) -> Result<u64, Refusal>
     ensures { RowsFound (graph_in head nodes.now) result }
 {
     let width = head.width;
@@ -30,40 +23,37 @@ fn judge_rows(head: Header, nodes: &[u64]) -> Rows
         let line = (k as u64) + FIRST_NODE_LINE;
         let row = tables::row_at(nodes, k);
         if !ranges::row_ok(width, row.kind, row.x, row.y) {
-            return Rows::Refused(CheckAnswer::Range(line));
+            return Err(Refusal::Range(line));
         }
         let taken = ranges::takes(row.kind);
         if waiting < taken {
-            return Rows::Refused(CheckAnswer::Shape(line));
+            return Err(Refusal::Shape(line));
         }
         waiting = waiting - taken + 1;
         k = k + 1;
     }
-    Rows::Waiting(waiting)
+    Ok(waiting)
 }
 
 // "a 65th node, not one waiting at the end"
-fn judge_end(count: u64, waiting: u64) -> CheckAnswer
-    ensures { of_check result ≡ end_found count waiting }
+fn judge_end(count: u64, waiting: u64) -> Result<(), Refusal>
+    ensures { of_result result ≡ end_found count waiting }
 {
     if NODES < count {
-        return CheckAnswer::Shape(NODES + FIRST_NODE_LINE);
+        return Err(Refusal::Shape(NODES + FIRST_NODE_LINE));
     }
     if waiting != 1 {
-        return CheckAnswer::Shape(count + FIRST_NODE_LINE);
+        return Err(Refusal::Shape(count + FIRST_NODE_LINE));
     }
-    CheckAnswer::Done
+    Ok(())
 }
 
-pub(crate) fn form(head: &[u64], nodes: &[u64]) -> CheckAnswer
-    ensures { of_check result ≡ form_check vector_bytes (graph_of head.now nodes.now) }
+pub(crate) fn form(head: &[u64], nodes: &[u64]) -> Result<(), Refusal>
+    ensures { of_result result ≡ form_check vector_bytes (graph_of head.now nodes.now) }
 {
     if !in_range(head) {
-        return CheckAnswer::Range(HEADER_LINE);
+        return Err(Refusal::Range(HEADER_LINE));
     }
-    let found = judge_rows(header_of(head), nodes);
-    match found {
-        Rows::Refused(answer) => answer,
-        Rows::Waiting(waiting) => judge_end(count_in(head), waiting),
-    }
+    let waiting = judge_rows(header_of(head), nodes)?;
+    judge_end(count_in(head), waiting)
 }

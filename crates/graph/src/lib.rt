@@ -8,23 +8,23 @@ mod links;
 
 ghost use Rattle.std.specs.Prelude.{◌≡◌};
 ghost use Rattle.rules.specs.Limits.{vector_bytes};
-ghost use Rattle.rules.specs.Answers.{of_check};
+ghost use Rattle.rules.specs.Answers.{of_result};
 ghost use Rattle.rules.specs.Calls.{checking};
 
 pub use headers::{Header, header_of};
 pub use links::left_inputs;
-use rules::answers::CheckAnswer;
+use rules::answers::Refusal;
 use rules::limits::{HEAD_ENTRIES, NODE_ENTRIES};
 
 // ROOM, then RANGE and SHAPE by line.
-pub fn check(head: &[u64], nodes: &[u64]) -> CheckAnswer
-    ensures { of_check result ≡ checking vector_bytes head.now nodes.now }
+pub fn check(head: &[u64], nodes: &[u64]) -> Result<(), Refusal>
+    ensures { of_result result ≡ checking vector_bytes head.now nodes.now }
 {
     if head.len() < HEAD_ENTRIES {
-        return CheckAnswer::Room;
+        return Err(Refusal::Room);
     }
     if nodes.len() < NODE_ENTRIES {
-        return CheckAnswer::Room;
+        return Err(Refusal::Room);
     }
     form::form(head, nodes)
 }

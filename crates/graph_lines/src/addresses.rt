@@ -2,13 +2,12 @@
 ghost use Rattle.std.specs.Prelude.{◌≡◌, ◌&&◌, ◌/◌, eqb};
 ghost use Rattle.rules.specs.Units.{width_bytes};
 ghost use Rattle.rules.specs.Frames.{load_kind};
-ghost use Rattle.rules.specs.Answers.{ALIGN, BOUNDS, CARRY};
+ghost use Rattle.rules.specs.Answers.{of_result};
 ghost use Rattle.rules.specs.Checks.{beyond, misaligned, length_of, carries, align_check, bounds_check, carry_check};
 ghost use Rattle.graph.specs.Headers.{graph_in};
-ghost use Rattle.graph_lines.specs.Founds.{answer_of};
 
-use crate::Found;
 use graph::Header;
+use rules::answers::Refusal;
 use rules::limits::{FIRST_NODE_LINE, HEADER_LINE, LOAD_KIND, WORK};
 use rules::sheet::Row;
 use rules::units::Width;
@@ -75,55 +74,55 @@ fn row_carries(head: Header, row: Row) -> bool
     beyond(width, head.elements, row.y, store)
 }
 
-pub fn align(head: Header, nodes: &[u64]) -> Found
-    ensures { answer_of ALIGN result ≡ align_check (graph_in head nodes.now) }
+pub fn align(head: Header, nodes: &[u64]) -> Result<(), Refusal>
+    ensures { of_result result ≡ align_check (graph_in head nodes.now) }
 {
     let width = head.width;
     if !ranges::is_multiple(width, head.store.0) {
-        return Found::At(HEADER_LINE);
+        return Err(Refusal::Align(HEADER_LINE));
     }
     let count = head.count;
     let mut k: u8 = 0;
     while k < count {
         let row = tables::row_at(nodes, k);
         if row_misaligned(width, row) {
-            return Found::At((k as u64) + FIRST_NODE_LINE);
+            return Err(Refusal::Align((k as u64) + FIRST_NODE_LINE));
         }
         k = k + 1;
     }
-    Found::Nothing
+    Ok(())
 }
 
-pub fn bounds(head: Header, nodes: &[u64], work_len: u64, table_len: u64) -> Found
-    ensures { answer_of BOUNDS result ≡ bounds_check (graph_in head nodes.now) work_len table_len }
+pub fn bounds(head: Header, nodes: &[u64], work_len: u64, table_len: u64) -> Result<(), Refusal>
+    ensures { of_result result ≡ bounds_check (graph_in head nodes.now) work_len table_len }
 {
     let width = head.width;
     if beyond(width, head.elements, head.store.0, work_len) {
-        return Found::At(HEADER_LINE);
+        return Err(Refusal::Bounds(HEADER_LINE));
     }
     let count = head.count;
     let mut k: u8 = 0;
     while k < count {
         let row = tables::row_at(nodes, k);
         if row_beyond(head, row, work_len, table_len) {
-            return Found::At((k as u64) + FIRST_NODE_LINE);
+            return Err(Refusal::Bounds((k as u64) + FIRST_NODE_LINE));
         }
         k = k + 1;
     }
-    Found::Nothing
+    Ok(())
 }
 
-pub fn carry(head: Header, nodes: &[u64]) -> Found
-    ensures { answer_of CARRY result ≡ carry_check (graph_in head nodes.now) }
+pub fn carry(head: Header, nodes: &[u64]) -> Result<(), Refusal>
+    ensures { of_result result ≡ carry_check (graph_in head nodes.now) }
 {
     let count = head.count;
     let mut k: u8 = 0;
     while k < count {
         let row = tables::row_at(nodes, k);
         if row_carries(head, row) {
-            return Found::At((k as u64) + FIRST_NODE_LINE);
+            return Err(Refusal::Carry((k as u64) + FIRST_NODE_LINE));
         }
         k = k + 1;
     }
-    Found::Nothing
+    Ok(())
 }

@@ -2,6 +2,7 @@
 // calls put them in their order.
 #![tactic(auto)]
 
+use rules::answers::Refusal;
 use rules::limits::{V, WINDOW_MOST, WORK};
 
 mod addresses;
@@ -9,21 +10,13 @@ mod rows;
 
 ghost use Rattle.std.specs.Prelude.{◌≡◌};
 ghost use Rattle.rules.specs.Limits.{vector_bytes};
-ghost use Rattle.rules.specs.Answers.{WINDOW};
+ghost use Rattle.rules.specs.Answers.{of_result};
 ghost use Rattle.rules.specs.Checks.{window_ok, window_check};
-ghost use Rattle.graph_lines.specs.Founds.{answer_of};
 
 pub use addresses::{align, bounds, carry};
 pub use rows::bare;
 
 const TABLE: u64 = 1;
-
-// The first place at fault, if there is one: a line, or for a window which of the two it is.
-#[derive(Clone, Copy)]
-pub enum Found {
-    Nothing,
-    At(u64),
-}
 
 fn window_ok(len: u64) -> bool
     ensures { result ≡ window_ok vector_bytes len }
@@ -35,14 +28,14 @@ fn window_ok(len: u64) -> bool
 }
 
 // 6 WINDOW, of the windows' lengths.
-pub fn windows(work_len: u64, table_len: u64) -> Found
-    ensures { answer_of WINDOW result ≡ window_check vector_bytes work_len table_len }
+pub fn windows(work_len: u64, table_len: u64) -> Result<(), Refusal>
+    ensures { of_result result ≡ window_check vector_bytes work_len table_len }
 {
     if !window_ok(work_len) {
-        return Found::At(WORK);
+        return Err(Refusal::Window(WORK));
     }
     if !window_ok(table_len) {
-        return Found::At(TABLE);
+        return Err(Refusal::Window(TABLE));
     }
-    Found::Nothing
+    Ok(())
 }

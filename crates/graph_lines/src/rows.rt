@@ -2,13 +2,12 @@
 ghost use Rattle.std.specs.Prelude.{◌≡◌, ◌||◌, eqb, leb};
 ghost use Rattle.rules.specs.Limits.{bare_most};
 ghost use Rattle.rules.specs.Frames.{shift_kind};
-ghost use Rattle.rules.specs.Answers.{BARE};
+ghost use Rattle.rules.specs.Answers.{of_result};
 ghost use Rattle.rules.specs.Checks.{bare_check};
 ghost use Rattle.graph.specs.Headers.{graph_in};
-ghost use Rattle.graph_lines.specs.Founds.{answer_of};
 
-use crate::Found;
 use graph::Header;
+use rules::answers::Refusal;
 use rules::limits::{FIRST_NODE_LINE, SHIFT_KIND};
 use rules::sheet::Row;
 
@@ -24,17 +23,17 @@ fn row_not_bare(row: Row, k: u8) -> bool
     BARE_MOST <= k
 }
 
-pub fn bare(head: Header, nodes: &[u64]) -> Found
-    ensures { answer_of BARE result ≡ bare_check (graph_in head nodes.now) }
+pub fn bare(head: Header, nodes: &[u64]) -> Result<(), Refusal>
+    ensures { of_result result ≡ bare_check (graph_in head nodes.now) }
 {
     let count = head.count;
     let mut k: u8 = 0;
     while k < count {
         let row = tables::row_at(nodes, k);
         if row_not_bare(row, k) {
-            return Found::At((k as u64) + FIRST_NODE_LINE);
+            return Err(Refusal::Bare((k as u64) + FIRST_NODE_LINE));
         }
         k = k + 1;
     }
-    Found::Nothing
+    Ok(())
 }

@@ -2,6 +2,7 @@
 use Prim.Native.Nat.{ℕ}
 use mathlib.Core.Path.{◌≡◌, sym, ap, ◌∙◌}
 use mathlib.Core.Bool.{true, false}
+use Rattle.std.proofs.lemmas.Result.{err_from_is_err_and}
 use Rattle.graph.specs.Forms.{end_found}
 use Rattle.graph.proofs.HeaderLaws.{head_refused, rows_refused, rows_waiting}
 use Rattle.graph.proofs.form.form.Goals as goal
@@ -12,19 +13,20 @@ returns-then-not-in_range c =
     let ok : c.in_range.result ≡ false = c.if-not-in_range.true in
     sym (head_refused a.head.now a.nodes.now (sym c.in_range.ensures ∙ ok))
 
-pub returns-in-Refused : goal.returns-in-Refused
-returns-in-Refused c =
+pub returns-in_err-waiting : goal.returns-in_err-waiting
+returns-in_err-waiting c =
     let a = c.args in
     let ok : c.in_range.result ≡ true = c.if-not-in_range.false in
-    let found = rw (c.in-Refused.is, c.header_of.ensures) at c.judge_rows-found.ensures in
-    sym (rows_refused a.head.now a.nodes.now (sym c.in_range.ensures ∙ ok) c.in-Refused.answer found)
+    let found = rw c.header_of.ensures at c.in_err-waiting.ensures in
+    let p = err_from_is_err_and c.from_residual.result c.from_residual.ensures.1 in
+    rw (p.1, p.2) (sym (rows_refused a.head.now a.nodes.now (sym c.in_range.ensures ∙ ok) _ found))
 
-pub returns-in-Waiting : goal.returns-in-Waiting
-returns-in-Waiting c =
+pub returns : goal.returns
+returns c =
     let a = c.args in
     let ok : c.in_range.result ≡ true = c.if-not-in_range.false in
-    let found = rw (c.in-Waiting.is, c.header_of.ensures) at c.judge_rows-found.ensures in
-    let now = c.in-Waiting.waiting in
+    let found = rw c.header_of.ensures at c.in_ok-waiting.ensures in
+    let now = c.in_ok-waiting.waiting in
     c.judge_end.ensures
     ∙ ap (λ (count : ℕ). end_found count now) c.count_in.ensures
     ∙ sym (rows_waiting a.head.now a.nodes.now (sym c.in_range.ensures ∙ ok) now found)
