@@ -1,5 +1,5 @@
 -- An instruction put into a row of a section, and the row after it.
-use Rattle.std.specs.Prelude.{ℕ, ◌+◌, ◌*◌, ◌%◌, cond, List, [], ◌∷◌, length, nat_lt}
+use Rattle.std.specs.Prelude.{ℕ, ◌≡◌, ◌+◌, ◌*◌, ◌%◌, cond, List, [], ◌∷◌, length, nat_lt}
 use Rattle.std.proofs.lemmas.List.Edits.{sets}
 use Rattle.rules.specs.Limits.{vector_bytes, low_values, instruction_entries}
 use Rattle.rules.specs.Vectors.{held}
@@ -9,6 +9,7 @@ use Rattle.rules.specs.Tables.{entries}
 use Rattle.rules.specs.declared.nodes.LoadAt.{LoadAt}
 use Rattle.rules.specs.declared.nodes.ShiftBy.{ShiftBy}
 use Rattle.rules.specs.declared.program.Instruction.{Instruction}
+use Rattle.translating_rows.specs.declared.Writer.{Writer}
 
 -- what an entry holds of a number
 unfoldable pub cut : ℕ → ℕ
@@ -37,7 +38,14 @@ abbrev pub handed : (next : ℕ) (section : List ℕ) → Handed
 handed next section = record { next = next; section = section }
 
 -- a row that does not lie in the section is not written
+abbrev pub row_put : (section : List ℕ) (row : ℕ) → Instruction → List ℕ
+row_put section row i =
+    cond (nat_lt (length section) (instruction_entries * row + instruction_entries)) section (written section row (i ∷ []))
+
 abbrev pub putting : (section : List ℕ) (row : ℕ) → Instruction → Handed
-putting section row i =
-    handed (cut (row + 1))
-    (cond (nat_lt (length section) (instruction_entries * row + instruction_entries)) section (written section row (i ∷ [])))
+putting section row i = handed (cut (row + 1)) (row_put section row i)
+
+-- a writer before and after it put an instruction into its row
+pub record Puts (before after : Writer) (i : Instruction) : Type 0 where
+  pub same_section : after.section.ghost_name ≡ before.section.ghost_name
+  pub rows : handed after.row after.section.now ≡ putting before.section.now before.row i

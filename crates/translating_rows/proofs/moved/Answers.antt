@@ -4,6 +4,4 @@ use Rattle.translating_rows.proofs.PutLaws.{cut_moved}
 use Rattle.translating_rows.proofs.moved.Goals as goal
 
 pub returns : goal.returns
-returns c =
-    let a = c.args in
-    c.low_bits.ensures ∙ cut_moved a.address.0 a.blocks.0
+returns c = c.low_bits.ensures ∙ cut_moved c.args.address.0 c.args.blocks.0
