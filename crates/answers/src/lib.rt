@@ -1,15 +1,12 @@
-// "Numbers the translator gives back": the number, the place and the steps of each case of each call's answer, for callers that
-// have no enums: C, and what is printed.
+// "Numbers the translator gives back": the number, the place and the steps of what a call answers, for callers that have no enums: C,
+// and what is printed.
 #![tactic(auto)]
 
 ghost use Rattle.std.specs.Prelude.{◌≡◌};
-ghost use Rattle.rules.specs.Answers.{of_read, of_check, of_offset, of_plain, of_place, of_translate, of_run, of_plan};
+ghost use Rattle.rules.specs.Answers.{of_refusal, of_result, of_run};
 ghost use Rattle.answers.specs.Given.{answer_of, numbered};
 
-use rules::answers::{
-    CheckAnswer, OffsetAnswer, PlaceAnswer, PlainAnswer, PlanAnswer, ReadAnswer, RunAnswer,
-    TranslateAnswer,
-};
+use rules::answers::Refusal;
 
 // The answers' numbers.
 pub const DONE: u64 = 0;
@@ -40,128 +37,67 @@ const OUT: u64 = 12;
 
 const FAULT: u64 = 13;
 
-#[derive(Clone, Copy)]
+#[derive(Clone, Copy, PartialEq, Eq)]
 pub struct Numbered {
     pub number: u64,
     pub place: u64,
     pub steps: u64,
 }
 
-fn given(number: u64, place: u64, steps: u64) -> Numbered
-    ensures { answer_of result ≡ numbered number place steps }
-{
-    Numbered {
-        number: number,
-        place: place,
-        steps: steps,
+impl Numbered {
+    fn given(number: u64, place: u64, steps: u64) -> Numbered
+        ensures { answer_of result ≡ numbered number place steps }
+    {
+        Numbered {
+            number,
+            place,
+            steps,
+        }
     }
 }
 
-pub fn of_read(answer: ReadAnswer) -> Numbered
-    ensures { answer_of result ≡ of_read answer }
-{
-    match answer {
-        ReadAnswer::Done => given(DONE, 0, 0),
-        ReadAnswer::Room => given(ROOM, 0, 0),
-        ReadAnswer::Line(line) => given(LINE, line, 0),
-        ReadAnswer::Range(line) => given(RANGE, line, 0),
-        ReadAnswer::Shape(line) => given(SHAPE, line, 0),
+impl From<Refusal> for Numbered {
+    ghost from_gives = { λ refusal n. answer_of n ≡ of_refusal refusal };
+
+    fn from(refusal: Refusal) -> Numbered {
+        match refusal {
+            Refusal::Room => Numbered::given(ROOM, 0, 0),
+            Refusal::Line(line) => Numbered::given(LINE, line, 0),
+            Refusal::Range(line) => Numbered::given(RANGE, line, 0),
+            Refusal::Shape(line) => Numbered::given(SHAPE, line, 0),
+            Refusal::Bare(line) => Numbered::given(BARE, line, 0),
+            Refusal::Window(window) => Numbered::given(WINDOW, window, 0),
+            Refusal::Align(line) => Numbered::given(ALIGN, line, 0),
+            Refusal::Bounds(line) => Numbered::given(BOUNDS, line, 0),
+            Refusal::Carry(line) => Numbered::given(CARRY, line, 0),
+            Refusal::Offset(line) => Numbered::given(OFFSET, line, 0),
+            Refusal::Long => Numbered::given(LONG, 0, 0),
+            Refusal::Out(steps) => Numbered::given(OUT, 0, steps),
+            Refusal::Fault(steps) => Numbered::given(FAULT, 0, steps),
+        }
     }
 }
 
-pub fn of_check(answer: CheckAnswer) -> Numbered
-    ensures { answer_of result ≡ of_check answer }
-{
-    match answer {
-        CheckAnswer::Done => given(DONE, 0, 0),
-        CheckAnswer::Room => given(ROOM, 0, 0),
-        CheckAnswer::Range(line) => given(RANGE, line, 0),
-        CheckAnswer::Shape(line) => given(SHAPE, line, 0),
+// A call that gives nothing but its answer.
+impl From<Result<(), Refusal>> for Numbered {
+    ghost from_gives = { λ answer n. answer_of n ≡ of_result answer };
+
+    fn from(answer: Result<(), Refusal>) -> Numbered {
+        match answer {
+            Ok(()) => Numbered::given(DONE, 0, 0),
+            Err(refusal) => Numbered::from(refusal),
+        }
     }
 }
 
-pub fn of_offset(answer: OffsetAnswer) -> Numbered
-    ensures { answer_of result ≡ of_offset answer }
-{
-    match answer {
-        OffsetAnswer::Done => given(DONE, 0, 0),
-        OffsetAnswer::Room => given(ROOM, 0, 0),
-        OffsetAnswer::Range(line) => given(RANGE, line, 0),
-        OffsetAnswer::Shape(line) => given(SHAPE, line, 0),
-        OffsetAnswer::Offset(line) => given(OFFSET, line, 0),
-    }
-}
+// A run, which gives its steps.
+impl From<Result<u64, Refusal>> for Numbered {
+    ghost from_gives = { λ answer n. answer_of n ≡ of_run answer };
 
-pub fn of_plain(answer: PlainAnswer) -> Numbered
-    ensures { answer_of result ≡ of_plain answer }
-{
-    match answer {
-        PlainAnswer::Done => given(DONE, 0, 0),
-        PlainAnswer::Room => given(ROOM, 0, 0),
-        PlainAnswer::Range(line) => given(RANGE, line, 0),
-        PlainAnswer::Shape(line) => given(SHAPE, line, 0),
-        PlainAnswer::Window(window) => given(WINDOW, window, 0),
-        PlainAnswer::Align(line) => given(ALIGN, line, 0),
-        PlainAnswer::Bounds(line) => given(BOUNDS, line, 0),
-    }
-}
-
-pub fn of_place(answer: PlaceAnswer) -> Numbered
-    ensures { answer_of result ≡ of_place answer }
-{
-    match answer {
-        PlaceAnswer::Done => given(DONE, 0, 0),
-        PlaceAnswer::Room => given(ROOM, 0, 0),
-        PlaceAnswer::Range(line) => given(RANGE, line, 0),
-        PlaceAnswer::Shape(line) => given(SHAPE, line, 0),
-        PlaceAnswer::Bare(line) => given(BARE, line, 0),
-        PlaceAnswer::Align(line) => given(ALIGN, line, 0),
-    }
-}
-
-pub fn of_translate(answer: TranslateAnswer) -> Numbered
-    ensures { answer_of result ≡ of_translate answer }
-{
-    match answer {
-        TranslateAnswer::Done => given(DONE, 0, 0),
-        TranslateAnswer::Room => given(ROOM, 0, 0),
-        TranslateAnswer::Range(line) => given(RANGE, line, 0),
-        TranslateAnswer::Shape(line) => given(SHAPE, line, 0),
-        TranslateAnswer::Window(window) => given(WINDOW, window, 0),
-        TranslateAnswer::Align(line) => given(ALIGN, line, 0),
-        TranslateAnswer::Bounds(line) => given(BOUNDS, line, 0),
-        TranslateAnswer::Carry(line) => given(CARRY, line, 0),
-        TranslateAnswer::Offset(line) => given(OFFSET, line, 0),
-        TranslateAnswer::Long => given(LONG, 0, 0),
-    }
-}
-
-pub fn of_plan(answer: PlanAnswer) -> Numbered
-    ensures { answer_of result ≡ of_plan answer }
-{
-    match answer {
-        PlanAnswer::Done => given(DONE, 0, 0),
-        PlanAnswer::Room => given(ROOM, 0, 0),
-        PlanAnswer::Range(line) => given(RANGE, line, 0),
-        PlanAnswer::Shape(line) => given(SHAPE, line, 0),
-        PlanAnswer::Bare(line) => given(BARE, line, 0),
-        PlanAnswer::Window(window) => given(WINDOW, window, 0),
-        PlanAnswer::Align(line) => given(ALIGN, line, 0),
-        PlanAnswer::Bounds(line) => given(BOUNDS, line, 0),
-        PlanAnswer::Carry(line) => given(CARRY, line, 0),
-        PlanAnswer::Offset(line) => given(OFFSET, line, 0),
-        PlanAnswer::Long => given(LONG, 0, 0),
-    }
-}
-
-pub fn of_run(answer: RunAnswer) -> Numbered
-    ensures { answer_of result ≡ of_run answer }
-{
-    match answer {
-        RunAnswer::Done(steps) => given(DONE, 0, steps),
-        RunAnswer::Room => given(ROOM, 0, 0),
-        RunAnswer::Window(window) => given(WINDOW, window, 0),
-        RunAnswer::Out(steps) => given(OUT, 0, steps),
-        RunAnswer::Fault(steps) => given(FAULT, 0, steps),
+    fn from(answer: Result<u64, Refusal>) -> Numbered {
+        match answer {
+            Ok(steps) => Numbered::given(DONE, 0, steps),
+            Err(refusal) => Numbered::from(refusal),
+        }
     }
 }

@@ -7,6 +7,7 @@ ghost use Rattle.rules.specs.Tables.{padded};
 ghost use Rattle.rules.specs.Trees.{node_at};
 ghost use Rattle.tables.specs.Rows.{row_at, row_put};
 
+use rules::kinds::FrameKind;
 use rules::nodes::{LoadAt, Node, ShiftBy};
 use rules::sheet::Row;
 use rules::units::ByteOffset;
@@ -18,17 +19,13 @@ const ROW_ENTRIES: usize = 3;
 pub fn clear(table: &mut [u64])
     ensures { table.new ≡ padded (length table.old) [] }
 {
-    let mut i = 0;
-    while i < table.len() {
-        table[i] = 0;
-        i = i + 1;
-    }
+    table.fill(0);
 }
 
 pub fn entry(table: &[u64], i: usize) -> u64
     ensures { result ≡ get_or table.now i 0 }
 {
-    if i < table.len() { table[i] } else { 0 }
+    table.get(i).copied().unwrap_or(0)
 }
 
 pub fn put(table: &mut [u64], i: usize, value: u64)
@@ -60,19 +57,19 @@ pub fn put_row(table: &mut [u64], k: u8, row: Row)
 }
 
 // The node of row k. An unknown kind, which no checked table has, stands for a splat of 0.
+#[tactic(auto, unfolding(rules::specs::Trees::node_at))]
 pub fn node_at(table: &[u64], k: u8) -> Node
     ensures { result ≡ node_at table.now k }
 {
     let row = row_at(table, k);
-    let kind = row.kind;
-    match kind {
-        1 => Node::Load(LoadAt {
+    match FrameKind::try_from(row.kind) {
+        Ok(FrameKind::Load) => Node::Load(LoadAt {
             window: row.x,
             address: ByteOffset(row.y),
         }),
-        2 => Node::Splat(row.x),
-        3 => Node::Op(row.x),
-        4 => Node::Shift(ShiftBy {
+        Ok(FrameKind::Splat) => Node::Splat(row.x),
+        Ok(FrameKind::Op) => Node::Op(row.x),
+        Ok(FrameKind::Shift) => Node::Shift(ShiftBy {
             from: ByteOffset(row.x),
             to: ByteOffset(row.y),
         }),

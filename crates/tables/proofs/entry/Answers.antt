@@ -1,7 +1,0 @@
--- An entry past the end reads as 0.
-use mathlib.Core.Path.{sym}
-use lib.ListN.{get_or-eq_default}
-use Rattle.tables.proofs.entry.Goals as goal
-
-pub returns-else-i-table : goal.returns-else-i-table
-returns-else-i-table c = sym (get_or-eq_default c.args.table.now 0 c.if-i-table.false)
