@@ -1,13 +1,14 @@
 // What is found before the first step of a run: ROOM, then WINDOW, work first, then a FAULT at the start.
 #![tactic(auto)]
 
-ghost use Rattle.std.specs.Prelude.{◌≡◌, ◌||◌, length};
+ghost use Rattle.std.specs.Prelude.{◌≡◌, ◌||◌, IfOk, length};
 ghost use Rattle.rules.specs.Limits.{vector_bytes};
-ghost use Rattle.rules.specs.Checks.{section_long, window_ok, start_fault};
+ghost use Rattle.rules.specs.Units.{width_bytes};
+ghost use Rattle.rules.specs.Answers.{of_result};
+ghost use Rattle.rules.specs.Checks.{section_long, window_check, window_ok, start_fault};
 ghost use Rattle.rules.specs.Calls.{start_answer};
-ghost use Rattle.refusals_machine.specs.Starting.{start_of, Widens};
 
-use rules::answers::RunAnswer;
+use rules::answers::Refusal;
 use rules::program::ProgramHead;
 use rules::units::Width;
 
@@ -15,68 +16,52 @@ const SECTION_MOST: u64 = 1024;
 
 const INSTRUCTION_ENTRIES: u64 = 6;
 
-const WINDOW_MOST: usize = 65536;
-
-const V: usize = 16;
-
 const FULL_MOST: u64 = 2048;
-
-// A run can go, on elements of a width, or is refused.
-#[derive(Clone, Copy)]
-pub enum Start {
-    Go(Width),
-    Refused(RunAnswer),
-}
 
 // Whether a section of so many instructions is too long, or longer than its table.
 fn section_long(rows: u64, section: &[u32]) -> bool
     ensures { result ≡ section_long rows section.now }
 {
-    if SECTION_MOST < rows {
-        return true;
-    }
-    let entries = INSTRUCTION_ENTRIES * rows;
-    (section.len() as u64) < entries
-}
-
-fn window_ok(len: usize) -> bool
-    ensures { result ≡ window_ok vector_bytes len }
-{
-    if WINDOW_MOST < len {
-        return false;
-    }
-    len % V == 0
+    SECTION_MOST < rows || (section.len() as u64) < INSTRUCTION_ENTRIES * rows
 }
 
 // Whether a section is too long.
 fn sections_long(head: ProgramHead, prologue: &[u32], body: &[u32], epilogue: &[u32]) -> bool
     ensures { result ≡ (section_long head.prologue prologue.now || section_long head.body body.now || section_long head.epilogue epilogue.now) }
 {
-    if section_long(head.prologue, prologue) {
-        return true;
+    section_long(head.prologue, prologue)
+        || section_long(head.body, body)
+        || section_long(head.epilogue, epilogue)
+}
+
+fn window_ok(len: u64) -> bool
+    ensures { result ≡ window_ok vector_bytes len }
+{
+    len <= 65536 && len % 16 == 0
+}
+
+pub fn windows(work_len: u64, table_len: u64) -> Result<(), Refusal>
+    ensures { of_result result ≡ window_check vector_bytes work_len table_len }
+{
+    if !window_ok(work_len) {
+        return Err(Refusal::Window(0));
     }
-    if section_long(head.body, body) {
-        return true;
+    if !window_ok(table_len) {
+        return Err(Refusal::Window(1));
     }
-    section_long(head.epilogue, epilogue)
+    Ok(())
 }
 
 // A FAULT at the start, for a D that is no width or an F above 2,048.
-fn start_width(head: ProgramHead) -> Start
-    ensures result_value { start_of result ≡ start_fault vector_bytes head }
-    ensures widens { Widens head result }
+#[tactic(auto, using(std::proofs::lemmas::Bool::Decides::nat_tests), unfolding(rules::specs::Units::is_width, rules::specs::Units::width_of))]
+fn start_width(head: ProgramHead) -> Result<Width, Refusal>
+    ensures result_value { of_result result ≡ start_fault vector_bytes head }
+    ensures widens { IfOk result (λ width. width_bytes width ≡ head.d) }
 {
     if FULL_MOST < head.f {
-        return Start::Refused(RunAnswer::Fault(0));
+        return Err(Refusal::Fault(0));
     }
-    let d = head.d;
-    match d {
-        1 => Start::Go(Width::One),
-        2 => Start::Go(Width::Two),
-        4 => Start::Go(Width::Four),
-        8 => Start::Go(Width::Eight),
-        _ => Start::Refused(RunAnswer::Fault(0)),
-    }
+    Width::try_from(head.d).map_err(|_| Refusal::Fault(0))
 }
 
 // What is found before the first step, or the width that the run goes on.
@@ -87,18 +72,13 @@ pub fn begin(
     epilogue: &[u32],
     work: &[u8],
     table: &[u8],
-) -> Start
-    ensures result_value { start_of result ≡ start_answer vector_bytes head prologue.now body.now epilogue.now (length work.now) (length table.now) }
-    ensures widens { Widens head result }
+) -> Result<Width, Refusal>
+    ensures result_value { of_result result ≡ start_answer vector_bytes head prologue.now body.now epilogue.now (length work.now) (length table.now) }
+    ensures widens { IfOk result (λ width. width_bytes width ≡ head.d) }
 {
     if sections_long(head, prologue, body, epilogue) {
-        return Start::Refused(RunAnswer::Room);
+        return Err(Refusal::Room);
     }
-    if !window_ok(work.len()) {
-        return Start::Refused(RunAnswer::Window(0));
-    }
-    if !window_ok(table.len()) {
-        return Start::Refused(RunAnswer::Window(1));
-    }
+    windows(work.len() as u64, table.len() as u64)?;
     start_width(head)
 }

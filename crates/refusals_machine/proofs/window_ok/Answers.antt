@@ -1,9 +1,0 @@
--- `window_ok`: at most 65,536, then whole vectors.
-use borrow.Author.Tests.{lt-leb, le-leb}
-use Rattle.refusals_machine.proofs.window_ok.Goals as goal
-
-pub returns-then-len-gt-WINDOW_MOST : goal.returns-then-len-gt-WINDOW_MOST
-returns-then-len-gt-WINDOW_MOST c = rw (lt-leb _ 65536 c.if-len-gt-WINDOW_MOST.true)
-
-pub returns : goal.returns
-returns c = rw (le-leb _ 65536 c.if-len-gt-WINDOW_MOST.false)
