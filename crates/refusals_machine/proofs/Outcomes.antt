@@ -1,5 +1,4 @@
 -- The contract of `begin` allows one outcome: what is found decides whether the run goes on, and D the width it goes on.
-use Prim.Native.Nat.{ℕ}
 use mathlib.Core.Path.{◌≡◌, refl, sym, ap, ◌∙◌}
 use native.Mathlib.Omega.{arith}
 use Rattle.std.specs.Prelude.{Result, Ok, Err, IfOk}

@@ -1,6 +1,6 @@
 -- What is found before the first step, test by test, in the order of the checks.
 use Prim.Native.Nat.{ℕ, zero, suc, ◌<◌}
-use mathlib.Core.Path.{◌≡◌, refl, sym, ◌∙◌}
+use mathlib.Core.Path.{◌≡◌, refl, sym}
 use mathlib.Core.Bool.{Bool, true, false, ◌||◌}
 use mathlib.Core.List.{List, [], ◌∷◌}
 use native.Mathlib.Omega.{arith}

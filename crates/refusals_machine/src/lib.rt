@@ -5,7 +5,7 @@ ghost use Rattle.std.specs.Prelude.{◌≡◌, ◌||◌, IfOk, length};
 ghost use Rattle.rules.specs.Limits.{vector_bytes};
 ghost use Rattle.rules.specs.Units.{width_bytes};
 ghost use Rattle.rules.specs.Answers.{of_result};
-ghost use Rattle.rules.specs.Checks.{section_long, window_check, window_ok, start_fault};
+ghost use Rattle.rules.specs.Checks.{section_long, start_fault};
 ghost use Rattle.rules.specs.Calls.{start_answer};
 
 use rules::answers::Refusal;
@@ -34,24 +34,6 @@ fn sections_long(head: ProgramHead, prologue: &[u32], body: &[u32], epilogue: &[
         || section_long(head.epilogue, epilogue)
 }
 
-fn window_ok(len: u64) -> bool
-    ensures { result ≡ window_ok vector_bytes len }
-{
-    len <= 65536 && len % 16 == 0
-}
-
-pub fn windows(work_len: u64, table_len: u64) -> Result<(), Refusal>
-    ensures { of_result result ≡ window_check vector_bytes work_len table_len }
-{
-    if !window_ok(work_len) {
-        return Err(Refusal::Window(0));
-    }
-    if !window_ok(table_len) {
-        return Err(Refusal::Window(1));
-    }
-    Ok(())
-}
-
 // A FAULT at the start, for a D that is no width or an F above 2,048.
 #[tactic(auto, using(std::proofs::lemmas::Bool::Decides::nat_tests), unfolding(rules::specs::Units::is_width, rules::specs::Units::width_of))]
 fn start_width(head: ProgramHead) -> Result<Width, Refusal>
@@ -65,6 +47,7 @@ fn start_width(head: ProgramHead) -> Result<Width, Refusal>
 }
 
 // What is found before the first step, or the width that the run goes on.
+#[tactic(auto, using(crate::proofs::StartLaws::room_found, crate::proofs::StartLaws::window_found, crate::proofs::StartLaws::head_found))]
 pub fn begin(
     head: ProgramHead,
     prologue: &[u32],
@@ -79,6 +62,6 @@ pub fn begin(
     if sections_long(head, prologue, body, epilogue) {
         return Err(Refusal::Room);
     }
-    windows(work.len() as u64, table.len() as u64)?;
+    graph_lines::windows(work.len() as u64, table.len() as u64)?;
     start_width(head)
 }
