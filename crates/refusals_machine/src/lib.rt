@@ -9,12 +9,11 @@ ghost use Rattle.rules.specs.Checks.{section_long, start_fault};
 ghost use Rattle.rules.specs.Calls.{start_answer};
 
 use rules::answers::Refusal;
+use rules::limits::INSTRUCTION_ENTRIES;
 use rules::program::ProgramHead;
 use rules::units::Width;
 
 const SECTION_MOST: u64 = 1024;
-
-const INSTRUCTION_ENTRIES: u64 = 6;
 
 const FULL_MOST: u64 = 2048;
 
@@ -22,7 +21,7 @@ const FULL_MOST: u64 = 2048;
 fn section_long(rows: u64, section: &[u32]) -> bool
     ensures { result ≡ section_long rows section.now }
 {
-    SECTION_MOST < rows || (section.len() as u64) < INSTRUCTION_ENTRIES * rows
+    SECTION_MOST < rows || section.len() < INSTRUCTION_ENTRIES * rows as usize
 }
 
 // Whether a section is too long.
