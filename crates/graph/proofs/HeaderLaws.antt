@@ -1,5 +1,5 @@
 -- A head whose fields are in range, or whose graph passes, loses nothing in its header; and the whole check from its parts.
-use Prim.Native.Nat.{ℕ, min}
+use Prim.Native.Nat.{ℕ, suc, ◌-◌, min}
 use mathlib.Core.Path.{◌≡◌, refl, ◌∙◌}
 use mathlib.Core.Bool.{Bool, true, false, not, ◌||◌}
 use mathlib.Core.List.{List, [], ◌∷◌, ◌++◌}
@@ -10,11 +10,12 @@ use lib.ListN.{get_or}
 use Rattle.std.specs.Prelude.{Ok, Err}
 use Rattle.rules.specs.Limits.{vector_bytes, nodes_most}
 use Rattle.rules.specs.Units.{width_bytes}
-use Rattle.rules.specs.Answers.{RANGE, SHAPE, at, refuse_if, first, each, of_refusal}
+use Rattle.rules.specs.Answers.{Answer, RANGE, SHAPE, at, refuse_if, first, each, of_refusal}
 use Rattle.rules.specs.Tables.{graph_of}
 use Rattle.rules.specs.Checks.{store_line, head_short, nodes_short, line, waits, row_check, end_check, form_check}
 use Rattle.rules.specs.Calls.{checking}
 use Rattle.rules.specs.declared.answers.Refusal.{Refusal}
+use Rattle.theory.proofs.AnswerLaws.{refusal_not_done}
 use Rattle.theory.proofs.FormLaws.{Formed, first_each}
 use Rattle.theory.proofs.Firsts.{form_alone}
 use Rattle.theory.proofs.Checked.{head_passes}
@@ -30,6 +31,13 @@ pub header_graph : (W : ℕ) (head nodes : List ℕ) → Formed W (graph_of head
 header_graph W head nodes f =
     let count : min (get_or head 3 0) nodes_most ≡ get_or head 3 0 = omega (arith, f.most) in
     rw (header_width head f.head, count)
+
+-- a refusal is the answer of every list that begins with it
+pub refusal_first : (refusal : Refusal) (check : Answer) (later : List Answer) → check ≡ of_refusal refusal → first (check ∷ later) ≡ of_refusal refusal
+unfolding first
+refusal_first refusal check later e =
+    let n : (of_refusal refusal).number ≡ suc ((of_refusal refusal).number - 1) = omega (arith, refusal_not_done refusal) in
+    rw (e, n)
 
 -- the end is judged alone, and where there is a 65th node it does not matter how many wait
 end_judged : (count now : ℕ) (nodes : List ℕ) → now ≡ waits nodes (min count nodes_most)

@@ -1,10 +1,9 @@
 -- A call on a bare sheet judges the room of its tables, its rule and the sheet's form before the lines: what one of these finds is
 -- the answer, and where they find nothing the lines decide.
-use Prim.Native.Nat.{ℕ, suc, ◌-◌, ◌≤◌, ◌<◌}
+use Prim.Native.Nat.{ℕ, ◌≤◌, ◌<◌}
 use mathlib.Core.Path.{◌≡◌, sym, ◌∙◌}
 use mathlib.Core.Bool.{Bool, true, false, ◌||◌}
 use mathlib.Core.List.{List, ◌∷◌}
-use native.Mathlib.Omega.{arith}
 use borrow.Author.Tests.{lt-ltb, le-ltb}
 use Rattle.rules.specs.Limits.{vector_bytes, rules_most}
 use Rattle.rules.specs.Answers.{Answer, ROOM, RANGE, at, done, first, of_refusal}
@@ -12,17 +11,9 @@ use Rattle.rules.specs.Tables.{Graph, graph_of}
 use Rattle.rules.specs.Checks.{head_short, nodes_short, room_check, rule_check, form_check}
 use Rattle.rules.specs.Calls.{checking}
 use Rattle.rules.specs.declared.answers.Refusal.{Refusal}
-use Rattle.theory.proofs.AnswerLaws.{refusal_not_done}
 use Rattle.theory.proofs.Firsts.{first_passed, checked_formed}
 use Rattle.graph.specs.Headers.{header_of, graph_in}
-use Rattle.graph.proofs.HeaderLaws.{header_graph, roomy_checking}
-
--- a refusal is the answer of every list that begins with it
-refusal_first : (refusal : Refusal) (check : Answer) (later : List Answer) → check ≡ of_refusal refusal → first (check ∷ later) ≡ of_refusal refusal
-unfolding first
-refusal_first refusal check later e =
-    let n : (of_refusal refusal).number ≡ suc ((of_refusal refusal).number - 1) = omega (arith, refusal_not_done refusal) in
-    rw (e, n)
+use Rattle.graph.proofs.HeaderLaws.{header_graph, roomy_checking, refusal_first}
 
 -- whether a table is too short, and the checks of the lines
 module _ (rule : ℕ) (head nodes : List ℕ) (short : Bool) (lines : Graph → List Answer) where

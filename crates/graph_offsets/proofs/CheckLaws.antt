@@ -5,24 +5,25 @@ use mathlib.Core.Bool.{Bool, true, false, not}
 use mathlib.Core.List.{List, [], ◌∷◌}
 use native.Mathlib.Omega.{arith}
 use lib.ListN.{get_or}
+use Rattle.std.specs.Prelude.{Ok, Err}
 use Rattle.rules.specs.Limits.{vector_bytes, nodes_most}
-use Rattle.rules.specs.Answers.{OFFSET, at, done, refuse_if, first}
+use Rattle.rules.specs.Answers.{OFFSET, at, done, refuse_if, first, of_refusal}
 use Rattle.rules.specs.Trees.{bytes, node_at, tree_of}
 use Rattle.rules.specs.Offsets.{agree, root_kept}
 use Rattle.rules.specs.Tables.{Graph, graph_of}
 use Rattle.rules.specs.Checks.{store_line, offset_row, offset_check}
 use Rattle.rules.specs.Calls.{checking, offset_checking}
+use Rattle.rules.specs.declared.answers.Refusal.{Refusal}
 use Rattle.rules.specs.declared.nodes.Offset.{Offset}
 use Rattle.rules.specs.declared.nodes.Offset.TheVariants.{At}
 use Rattle.theory.proofs.FormLaws.{Formed, first_each, some_row}
-use Rattle.theory.proofs.Firsts.{first_alone, first_passed, first_refused}
+use Rattle.theory.proofs.Firsts.{first_alone, first_passed}
 use Rattle.graph.specs.Headers.{header_of}
 use Rattle.graph.specs.declared.headers.Header.{Header}
 use Rattle.graph.specs.Links.{lefts, left_in, Linked}
 use Rattle.graph.proofs.LinkLaws.{lefts_linked}
-use Rattle.graph.proofs.HeaderLaws.{header_graph}
+use Rattle.graph.proofs.HeaderLaws.{header_graph, refusal_first}
 use Rattle.graph_offsets.specs.Judging.{NodesFound}
-use Rattle.graph_offsets.specs.declared.nodes.Judged.TheVariants.{Has, Broken}
 
 module _ (head nodes : List ℕ) (f : Formed vector_bytes (graph_of head nodes)) where
   abbrev count : ℕ
@@ -40,11 +41,11 @@ module _ (head nodes : List ℕ) (f : Formed vector_bytes (graph_of head nodes))
       let some : 1 ≤ get_or head 3 0 = some_row vector_bytes (get_or head 0 0) (get_or head 3 0) nodes f.rows in
       ((omega (arith, all_counted), omega (arith, all_counted, f.most)), rw all_counted (lefts_linked vector_bytes graph f))
 
-  pub nodes_broken : (place : ℕ) → NodesFound nodes count (Broken place) → at OFFSET place ≡ offset_check vector_bytes graph
+  pub nodes_broken : (refusal : Refusal) → NodesFound nodes count (Err refusal) → of_refusal refusal ≡ offset_check vector_bytes graph
   unfolding offset_check
-  nodes_broken place found = sym (rw all_counted at (found (refuse_if (not (root_kept vector_bytes graph.S (tree_of nodes graph.N))) (at OFFSET store_line) ∷ [])))
+  nodes_broken refusal found = sym (rw all_counted at (found (refuse_if (not (root_kept vector_bytes graph.S (tree_of nodes graph.N))) (at OFFSET store_line) ∷ [])))
 
-  module _ (root : Offset) (found : NodesFound nodes count (Has root)) where
+  module _ (root : Offset) (found : NodesFound nodes count (Ok root)) where
     abbrev kept : Bool
     kept = agree (At (bytes (graph.S % vector_bytes))) root
 
@@ -70,10 +71,10 @@ module _ (head nodes : List ℕ) (f : Formed vector_bytes (graph_of head nodes))
 
 -- ---- the form first
 
-pub form_refuses : (head nodes : List ℕ) (number place : ℕ) → checking vector_bytes head nodes ≡ at (suc number) place
-    → at (suc number) place ≡ offset_checking vector_bytes head nodes
+pub form_refuses : (head nodes : List ℕ) (refusal : Refusal) → of_refusal refusal ≡ checking vector_bytes head nodes
+    → of_refusal refusal ≡ offset_checking vector_bytes head nodes
 unfolding offset_checking
-form_refuses head nodes number place e = sym (first_refused _ _ number place e)
+form_refuses head nodes refusal e = sym (refusal_first refusal _ _ (sym e))
 
 pub form_passes : (head nodes : List ℕ) → checking vector_bytes head nodes ≡ done
     → offset_check vector_bytes (graph_of head nodes) ≡ offset_checking vector_bytes head nodes

@@ -5,6 +5,7 @@ use mathlib.Core.Bool.{Bool, true, false}
 use mathlib.Core.List.{List}
 use native.Mathlib.Omega.{arith}
 use lib.ListN.{length, set}
+use Rattle.std.specs.Prelude.{Result, Ok, Err}
 use lib.Seq.{get_or-set_same, get_or-set_other}
 use Rattle.rules.specs.Limits.{vector_bytes}
 use Rattle.rules.specs.Trees.{Tree, bytes, node_at, tree_at, tree_of}
@@ -17,19 +18,19 @@ use Rattle.rules.specs.declared.nodes.Node.TheVariants.{Load, Splat, Op, Shift}
 use Rattle.rules.specs.declared.nodes.Offset.{Offset}
 use Rattle.rules.specs.declared.nodes.Offset.TheVariants.{At, Undefined}
 use Rattle.rules.specs.declared.nodes.NodeRecord.{NodeRecord}
+use Rattle.rules.specs.declared.answers.Refusal.{Refusal}
+use Rattle.rules.specs.declared.answers.Refusal.TheVariants as Refused
 use Rattle.theory.proofs.Lists.{split}
 use Rattle.theory.proofs.Firsts.{Passed, passed_none, passed_next, passed_refused}
 use Rattle.graph.specs.Links.{Linked}
 use Rattle.graph.proofs.LinkLaws.{linked_node}
 use Rattle.graph_offsets.specs.Judging.{given, judged, no_record, offset_in, Known, rule_check, NodesFound}
-use Rattle.graph_offsets.specs.declared.nodes.Judged.{Judged}
-use Rattle.graph_offsets.specs.declared.nodes.Judged.TheVariants.{Has, Broken}
 
 module _ (node : ℕ → Node) (left : ℕ → ℕ) (k : ℕ) (l : Linked node left (k + 1)) where
-  pub load_judged : (a : LoadAt) → node k ≡ Load a → Has (At (bytes (a.address.0 % vector_bytes))) ≡ judged (tree_at node k) (line k)
+  pub load_judged : (a : LoadAt) → node k ≡ Load a → Ok (At (bytes (a.address.0 % vector_bytes))) ≡ judged (tree_at node k) (line k)
   load_judged a e = rw (linked_node node left k l (Load a) e)
 
-  pub splat_judged : (v : ℕ) → node k ≡ Splat v → Has Undefined ≡ judged (tree_at node k) (line k)
+  pub splat_judged : (v : ℕ) → node k ≡ Splat v → Ok Undefined ≡ judged (tree_at node k) (line k)
   splat_judged v e = rw (linked_node node left k l (Splat v) e)
 
   pub op_below : (o : ℕ) → node k ≡ Op o → left k < k
@@ -69,17 +70,17 @@ nodes_none nodes records root =
     record { passed = passed_none (rule_check nodes); known = λ k h. absurd (omega arith); last = λ h. absurd (omega arith) }
 
 -- a judgement taken apart
-abbrev kept_of : Judged → Bool
-kept_of (Has o) = true
-kept_of (Broken place) = false
+abbrev kept_of : Result Offset Refusal → Bool
+kept_of (Ok o) = true
+kept_of (Err refusal) = false
 
-abbrev offset_of : Judged → Offset
-offset_of (Has o) = o
-offset_of (Broken place) = Undefined
+abbrev offset_of : Result Offset Refusal → Offset
+offset_of (Ok o) = o
+offset_of (Err refusal) = Undefined
 
-abbrev place_of : Judged → ℕ
-place_of (Has o) = 0
-place_of (Broken place) = place
+abbrev refusal_of : Result Offset Refusal → Refusal
+refusal_of (Ok o) = Refused.Room
+refusal_of (Err refusal) = refusal
 
 given_kept : (kept : Bool) (o : Offset) (place : ℕ) → kept_of (given kept o place) ≡ kept
 given_kept true o place = refl
@@ -89,20 +90,20 @@ abbrev held : NodeRecord → Offset
 held entry = entry.offset
 
 module _ (nodes : List ℕ) (k : ℕ) (records : List NodeRecord) (root : Offset) (so : NodesSo nodes k records root)
-    (found : Judged) (told : found ≡ judged (tree_at (node_at nodes) k) (line k)) where
+    (found : Result Offset Refusal) (told : found ≡ judged (tree_at (node_at nodes) k) (line k)) where
   abbrev tree : Tree
   tree = tree_at (node_at nodes) k
 
   kept : rule_kept vector_bytes tree ≡ kept_of found
   kept = sym (given_kept (rule_kept vector_bytes tree) (offset vector_bytes tree) (line k)) ∙ ap kept_of (sym told)
 
-  pub node_broken : (place n : ℕ) → k < n → found ≡ Broken place → NodesFound nodes n (Broken place)
-  node_broken place n h e later =
+  pub node_broken : (refusal : Refusal) (n : ℕ) → k < n → found ≡ Err refusal → NodesFound nodes n (Err refusal)
+  node_broken refusal n h e later =
       let b : rule_kept vector_bytes tree ≡ false = kept ∙ ap kept_of e in
-      let p : line k ≡ place = rw b at (ap place_of (sym told ∙ e)) in
-      passed_refused (rule_check nodes) n k later 9 place so.passed h (rw (b, p))
+      let p : refusal ≡ Refused.Offset (line k) = sym (rw b at (ap refusal_of (sym told ∙ e))) in
+      rw p (passed_refused (rule_check nodes) n k later 9 (line k) so.passed h (rw b))
 
-  pub node_kept : (o : Offset) → found ≡ Has o → (entry : NodeRecord) → entry.offset ≡ o → k < length records
+  pub node_kept : (o : Offset) → found ≡ Ok o → (entry : NodeRecord) → entry.offset ≡ o → k < length records
       → NodesSo nodes (k + 1) (set records k entry) o
   unfolding Known
   node_kept o e entry q h =
@@ -119,7 +120,7 @@ module _ (nodes : List ℕ) (k : ℕ) (records : List NodeRecord) (root : Offset
 
 -- all nodes keep their rules
 pub nodes_kept : (nodes : List ℕ) (n k : ℕ) (records : List NodeRecord) (root : Offset) → NodesSo nodes k records root → 0 < n → k ≡ n
-    → NodesFound nodes n (Has root)
+    → NodesFound nodes n (Ok root)
 unfolding Passed tree_at tree_of
 nodes_kept nodes zero k records root so pos e = absurd (omega arith)
 nodes_kept nodes (suc n) k records root so pos e =

@@ -1,7 +1,7 @@
 -- A node's rule and offset in the code's own answers, and what is known of the nodes so far.
-use Rattle.std.specs.Prelude.{ℕ, ◌<◌, ◌≡◌, Bool, true, false, not, List, ◌++◌, get_or}
+use Rattle.std.specs.Prelude.{ℕ, ◌<◌, ◌≡◌, Bool, true, false, not, List, ◌++◌, get_or, Result, Ok, Err}
 use Rattle.rules.specs.Limits.{vector_bytes}
-use Rattle.rules.specs.Answers.{Answer, OFFSET, done, at, refuse_if, first, each}
+use Rattle.rules.specs.Answers.{Answer, OFFSET, done, at, refuse_if, first, each, of_refusal}
 use Rattle.rules.specs.Trees.{Tree, bytes, node_at, tree_at, tree_of}
 use Rattle.rules.specs.Offsets.{offset, rule_kept}
 use Rattle.rules.specs.Checks.{line}
@@ -10,15 +10,15 @@ use Rattle.rules.specs.declared.nodes.Node.TheVariants.{Load}
 use Rattle.rules.specs.declared.nodes.Offset.{Offset}
 use Rattle.rules.specs.declared.nodes.Offset.TheVariants.{At}
 use Rattle.rules.specs.declared.nodes.NodeRecord.{NodeRecord}
-use Rattle.graph_offsets.specs.declared.nodes.Judged.{Judged}
-use Rattle.graph_offsets.specs.declared.nodes.Judged.TheVariants.{Has, Broken}
+use Rattle.rules.specs.declared.answers.Refusal.{Refusal}
+use Rattle.rules.specs.declared.answers.Refusal.TheVariants as Refused
 
 -- an offset where a rule is kept, else the line
-abbrev pub given : (kept : Bool) → Offset → (place : ℕ) → Judged
-given true o place = Has o
-given false o place = Broken place
+abbrev pub given : (kept : Bool) → Offset → (place : ℕ) → Result Offset Refusal
+given true o place = Ok o
+given false o place = Err (Refused.Offset place)
 
-abbrev pub judged : Tree → (place : ℕ) → Judged
+abbrev pub judged : Tree → (place : ℕ) → Result Offset Refusal
 judged t place = given (rule_kept vector_bytes t) (offset vector_bytes t) place
 
 -- what stands past the last record
@@ -37,6 +37,6 @@ abbrev pub rule_check : List ℕ → ℕ → Answer
 rule_check nodes k = refuse_if (not (rule_kept vector_bytes (tree_at (node_at nodes) k))) (at OFFSET (line k))
 
 -- the first rule that is broken, whatever comes after it; or every rule is kept, and the root's offset
-abbrev pub NodesFound : (nodes : List ℕ) (n : ℕ) → Judged → Type 0
-NodesFound nodes n (Broken place) = (later : List Answer) → first (each (rule_check nodes) n ++ later) ≡ at OFFSET place
-NodesFound nodes n (Has root) = ((k : ℕ) → k < n → rule_check nodes k ≡ done) × (root ≡ offset vector_bytes (tree_of nodes n))
+abbrev pub NodesFound : (nodes : List ℕ) (n : ℕ) → Result Offset Refusal → Type 0
+NodesFound nodes n (Err refusal) = (later : List Answer) → first (each (rule_check nodes) n ++ later) ≡ of_refusal refusal
+NodesFound nodes n (Ok root) = ((k : ℕ) → k < n → rule_check nodes k ≡ done) × (root ≡ offset vector_bytes (tree_of nodes n))

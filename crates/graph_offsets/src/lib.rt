@@ -6,47 +6,37 @@ mod pairs;
 
 ghost use Rattle.std.specs.Prelude.{◌≡◌};
 ghost use Rattle.rules.specs.Limits.{vector_bytes};
-ghost use Rattle.rules.specs.Answers.{of_offset};
+ghost use Rattle.rules.specs.Answers.{of_result};
 ghost use Rattle.rules.specs.Tables.{graph_of};
 ghost use Rattle.rules.specs.Checks.{offset_check};
 ghost use Rattle.rules.specs.Calls.{offset_checking};
 ghost use Rattle.theory.proofs.FormLaws.{Formed};
 
-use crate::nodes::{Judged, judge_nodes};
+use crate::nodes::judge_nodes;
 pub use pairs::{agree, join};
-use rules::answers::{CheckAnswer, OffsetAnswer};
+use rules::answers::Refusal;
 use rules::limits::{HEADER_LINE, V};
 use rules::nodes::Offset;
 use rules::units::ByteOffset;
 
 // The rules of the nodes, then the root's.
-fn judge(head: &[u64], nodes: &[u64]) -> OffsetAnswer
+fn judge(head: &[u64], nodes: &[u64]) -> Result<(), Refusal>
     requires { Formed vector_bytes (graph_of head.now nodes.now) }
-    ensures { of_offset result ≡ offset_check vector_bytes (graph_of head.now nodes.now) }
+    ensures { of_result result ≡ offset_check vector_bytes (graph_of head.now nodes.now) }
 {
     let header = graph::header_of(head);
     let store = Offset::At(ByteOffset(header.store.0 % V));
-    let found = judge_nodes(nodes, header.count);
-    match found {
-        Judged::Broken(line) => OffsetAnswer::Offset(line),
-        Judged::Has(root) => {
-            if agree(store, root) {
-                return OffsetAnswer::Done;
-            }
-            OffsetAnswer::Offset(HEADER_LINE)
-        }
+    let root = judge_nodes(nodes, header.count)?;
+    if !agree(store, root) {
+        return Err(Refusal::Offset(HEADER_LINE));
     }
+    Ok(())
 }
 
 // ROOM, RANGE and SHAPE, then OFFSET.
-pub fn offset_check(head: &[u64], nodes: &[u64]) -> OffsetAnswer
-    ensures { of_offset result ≡ offset_checking vector_bytes head.now nodes.now }
+pub fn offset_check(head: &[u64], nodes: &[u64]) -> Result<(), Refusal>
+    ensures { of_result result ≡ offset_checking vector_bytes head.now nodes.now }
 {
-    let form = graph::check(head, nodes);
-    match form {
-        CheckAnswer::Done => judge(head, nodes),
-        CheckAnswer::Room => OffsetAnswer::Room,
-        CheckAnswer::Range(line) => OffsetAnswer::Range(line),
-        CheckAnswer::Shape(line) => OffsetAnswer::Shape(line),
-    }
+    graph::check(head, nodes)?;
+    judge(head, nodes)
 }

@@ -9,42 +9,41 @@ ghost use Rattle.graph.specs.Links.{lefts, left_in, Linked};
 ghost use Rattle.graph_offsets.specs.Judging.{given, judged, Known, NodesFound};
 
 use crate::pairs::{agree, is_at, join};
+use rules::answers::Refusal;
 use rules::limits::{FIRST_NODE_LINE, V};
 use rules::nodes::{Node, NodeRecord, Offset, ShiftBy};
 use rules::units::ByteOffset;
 
-// The offset of a node whose rule is kept, or the line of a rule that is broken.
-#[derive(Clone, Copy)]
-pub(crate) enum Judged {
-    Has(Offset),
-    Broken(u64),
-}
-
 // "An op's inputs must agree"
-fn judge_op(left: Offset, right: Offset, line: u64) -> Judged
+fn judge_op(left: Offset, right: Offset, line: u64) -> Result<Offset, Refusal>
     ensures { result ≡ given (agree left right) (join left right) line }
 {
     if agree(left, right) {
         let joined = join(left, right);
-        return Judged::Has(joined);
+        return Ok(joined);
     }
-    Judged::Broken(line)
+    Err(Refusal::Offset(line))
 }
 
 // "A shift's child must have a defined offset equal to from; the shift's is to."
-fn judge_shift(child: Offset, shift: ShiftBy, line: u64) -> Judged
+fn judge_shift(child: Offset, shift: ShiftBy, line: u64) -> Result<Offset, Refusal>
     ensures { result ≡ given (is_at child shift.«from».0) (At shift.to) line }
 {
     let from = shift.from;
     let to = shift.to;
     if is_at(child, from) {
-        return Judged::Has(Offset::At(to));
+        return Ok(Offset::At(to));
     }
-    Judged::Broken(line)
+    Err(Refusal::Offset(line))
 }
 
 // The rule and the offset of node k, from the records before it.
-fn judge_node(nodes: &[u64], lefts: &[u8; 64], records: [NodeRecord; 64], k: u8) -> Judged
+fn judge_node(
+    nodes: &[u64],
+    lefts: &[u8; 64],
+    records: [NodeRecord; 64],
+    k: u8,
+) -> Result<Offset, Refusal>
     requires k_lt_nodes_most { k < nodes_most }
     requires linked { Linked (node_at nodes.now) (left_in lefts.now) (k + 1) }
     requires known { Known (node_at nodes.now) k records }
@@ -53,8 +52,8 @@ fn judge_node(nodes: &[u64], lefts: &[u8; 64], records: [NodeRecord; 64], k: u8)
     let line = (k as u64) + FIRST_NODE_LINE;
     let node = tables::node_at(nodes, k);
     match node {
-        Node::Load(load) => Judged::Has(Offset::At(ByteOffset(load.address.0 % V))),
-        Node::Splat(_) => Judged::Has(Offset::Undefined),
+        Node::Load(load) => Ok(Offset::At(ByteOffset(load.address.0 % V))),
+        Node::Splat(_) => Ok(Offset::Undefined),
         Node::Op(_) => {
             let at = k as usize;
             let left = lefts[at] as usize;
@@ -75,7 +74,7 @@ fn judge_node(nodes: &[u64], lefts: &[u8; 64], records: [NodeRecord; 64], k: u8)
 }
 
 // The rules of all nodes in their order, and the root's offset.
-pub(crate) fn judge_nodes(nodes: &[u64], count: u8) -> Judged
+pub(crate) fn judge_nodes(nodes: &[u64], count: u8) -> Result<Offset, Refusal>
     requires count_nonzero { (0 < count) × (count ≤ nodes_most) }
     requires linked { Linked (node_at nodes.now) (left_in (lefts (node_at nodes.now) nodes_most)) count }
     ensures { NodesFound nodes.now count result }
@@ -89,21 +88,11 @@ pub(crate) fn judge_nodes(nodes: &[u64], count: u8) -> Judged
     let mut root = Offset::Undefined;
     let mut k: u8 = 0;
     while k < count {
-        let found = judge_node(nodes, &lefts, records, k);
-        match found {
-            Judged::Broken(line) => {
-                return Judged::Broken(line);
-            }
-            Judged::Has(offset) => {
-                let node = tables::node_at(nodes, k);
-                records[k as usize] = NodeRecord {
-                    node: node,
-                    offset: offset,
-                };
-                root = offset;
-            }
-        }
+        let offset = judge_node(nodes, &lefts, records, k)?;
+        let node = tables::node_at(nodes, k);
+        records[k as usize] = NodeRecord { node, offset };
+        root = offset;
         k = k + 1;
     }
-    Judged::Has(root)
+    Ok(root)
 }

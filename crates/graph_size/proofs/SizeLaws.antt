@@ -1,20 +1,20 @@
 -- A sum of capped sizes, capped, is the sum of the sizes, capped: so G is counted up to its cap from the inputs' counts.
-use Prim.Native.Nat.{ℕ, ◌+◌, ◌*◌, ◌-◌, ◌≤◌, ◌<◌}
+use Prim.Native.Nat.{ℕ, suc, ◌+◌, ◌*◌, ◌-◌, ◌≤◌, ◌<◌}
 use native.Mathlib.Omega.{arith}
 use mathlib.Core.Path.{◌≡◌, refl, sym, ap, ◌∙◌}
 use mathlib.Core.List.{List}
 use lib.ListN.{get_or}
 use Rattle.rules.specs.Limits.{vector_bytes, nodes_most, long_most}
-use Rattle.rules.specs.Answers.{Answer, DONE, done, of_check}
+use Rattle.rules.specs.Answers.{Answer, DONE, done, of_refusal}
 use Rattle.rules.specs.Trees.{node_at}
 use Rattle.rules.specs.Code.{G}
 use Rattle.rules.specs.Tables.{Graph, graph_of}
 use Rattle.rules.specs.Calls.{checking, graph_tree}
-use Rattle.rules.specs.declared.answers.CheckAnswer.{CheckAnswer}
-use Rattle.rules.specs.declared.answers.CheckAnswer.TheVariants as Check
+use Rattle.rules.specs.declared.answers.Refusal.{Refusal}
 use Rattle.rules.specs.declared.nodes.LoadAt.{LoadAt}
 use Rattle.rules.specs.declared.nodes.ShiftBy.{ShiftBy}
 use Rattle.rules.specs.declared.nodes.Node.TheVariants as Node
+use Rattle.theory.proofs.AnswerLaws.{refusal_not_done}
 use Rattle.theory.proofs.FormLaws.{Formed}
 use Rattle.theory.proofs.Firsts.{checked_formed}
 use Rattle.graph.specs.Headers.{header_of}
@@ -55,13 +55,11 @@ module _ (nodes left : List ℕ) (k : ℕ) (to : LinkedTo nodes left (k + 1)) wh
 -- ---- a graph handed over as tables
 
 module _ (head nodes : List ℕ) where
-  pub refused_size : (form : CheckAnswer) → of_check form ≡ checking vector_bytes head nodes → (form ≡ Check.Done → ⊥)
-      → 0 ≡ size_of head nodes
+  pub refused_size : (refusal : Refusal) → of_refusal refusal ≡ checking vector_bytes head nodes → 0 ≡ size_of head nodes
   unfolding size_of
-  refused_size Check.Done e t = absurd (t refl)
-  refused_size Check.Room e t = rw (← e)
-  refused_size (Check.Range k) e t = rw (← e)
-  refused_size (Check.Shape k) e t = rw (← e)
+  refused_size refusal e =
+      let n : (of_refusal refusal).number ≡ suc ((of_refusal refusal).number - 1) = omega (arith, refusal_not_done refusal) in
+      rw (← e, n)
 
   -- of a graph that passes it is the capped G of its tree
   pub checked_size : (checking vector_bytes head nodes).number ≡ DONE → size_of head nodes ≡ capped (G (graph_tree (graph_of head nodes)))

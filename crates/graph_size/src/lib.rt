@@ -8,17 +8,10 @@ ghost use Rattle.rules.specs.Code.{G};
 ghost use Rattle.graph.specs.Links.{Linked};
 ghost use Rattle.graph_size.specs.Sizing.{capped, size_of};
 
-use rules::answers::CheckAnswer;
 use rules::nodes::Node;
 
 // "G above 1,020" is LONG, and so is all that this stands for.
 const CAP: u64 = 1021;
-
-fn cap(size: u64) -> u64
-    ensures { result ≡ capped size }
-{
-    if CAP < size { CAP } else { size }
-}
 
 // The size of the tree that ends at node k.
 fn node_size(nodes: &[u64], left: &[u8; 64], k: u8) -> u64
@@ -36,13 +29,13 @@ fn node_size(nodes: &[u64], left: &[u8; 64], k: u8) -> u64
             let one = node_size(nodes, left, left_input);
             let other = node_size(nodes, left, right_input);
             let both = one + other + 1;
-            cap(both)
+            both.min(CAP)
         }
         Node::Shift(_) => {
             let child = k - 1;
             let one = node_size(nodes, left, child);
             let both = one + one + 1;
-            cap(both)
+            both.min(CAP)
         }
     }
 }
@@ -51,8 +44,7 @@ fn node_size(nodes: &[u64], left: &[u8; 64], k: u8) -> u64
 pub fn size(head: &[u64], nodes: &[u64]) -> u64
     ensures { result ≡ size_of head.now nodes.now }
 {
-    let form = graph::check(head, nodes);
-    let CheckAnswer::Done = form else {
+    let Ok(()) = graph::check(head, nodes) else {
         return 0;
     };
     let header = graph::header_of(head);

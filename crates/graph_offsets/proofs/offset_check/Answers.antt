@@ -1,5 +1,6 @@
 -- The form first, by what its check gave (CheckLaws).
 use mathlib.Core.Path.{sym, ◌∙◌}
+use Rattle.std.proofs.lemmas.Result.{err_from_is_err_and}
 use Rattle.rules.specs.Limits.{vector_bytes}
 use Rattle.theory.proofs.Firsts.{checked_formed}
 use Rattle.graph_offsets.proofs.CheckLaws.{form_refuses, form_passes}
@@ -7,20 +8,13 @@ use Rattle.graph_offsets.proofs.offset_check.Goals as goal
 
 pub judge-requires : goal.judge-requires
 judge-requires c =
-    checked_formed vector_bytes c.args.head.now c.args.nodes.now (sym (rw c.in-Done.is at c.check-form.ensures))
+    checked_formed vector_bytes c.args.head.now c.args.nodes.now (sym c.in_ok-check.ensures)
 
-pub returns-in-Done : goal.returns-in-Done
-returns-in-Done c =
-    c.judge.ensures ∙ form_passes c.args.head.now c.args.nodes.now (sym (rw c.in-Done.is at c.check-form.ensures))
+pub returns-in_err-check : goal.returns-in_err-check
+returns-in_err-check c =
+    let p = err_from_is_err_and c.from_residual.result c.from_residual.ensures.1 in
+    rw (p.1, p.2) (form_refuses c.args.head.now c.args.nodes.now _ c.in_err-check.ensures)
 
-pub returns-in-Room : goal.returns-in-Room
-returns-in-Room c =
-    form_refuses c.args.head.now c.args.nodes.now 0 0 (sym (rw c.in-Room.is at c.check-form.ensures))
-
-pub returns-in-Range : goal.returns-in-Range
-returns-in-Range c =
-    form_refuses c.args.head.now c.args.nodes.now 2 c.in-Range.line (sym (rw c.in-Range.is at c.check-form.ensures))
-
-pub returns-in-Shape : goal.returns-in-Shape
-returns-in-Shape c =
-    form_refuses c.args.head.now c.args.nodes.now 3 c.in-Shape.line (sym (rw c.in-Shape.is at c.check-form.ensures))
+pub returns : goal.returns
+returns c =
+    c.judge.ensures ∙ form_passes c.args.head.now c.args.nodes.now (sym c.in_ok-check.ensures)

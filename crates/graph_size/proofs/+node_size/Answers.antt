@@ -1,6 +1,7 @@
 -- Each node's count from its inputs' counts.
 use Rattle.std.proofs.Common.{arith, sym, ◌∙◌}
 use Rattle.graph.proofs.InputLaws.{linked_below, left_falls, some_child}
+use Rattle.graph_size.specs.Sizing.{capped}
 use Rattle.graph_size.proofs.SizeLaws.{capped_most, load_size, splat_size, op_size, shift_size}
 use Rattle.graph_size.proofs.+node_size.Goals as goal
 
@@ -55,13 +56,15 @@ returns-in-Splat t c =
     splat_size a.nodes.now a.left.now a.k c.requires.1 _ (sym c.node_at-node.ensures ∙ c.in-Splat.is)
 
 pub returns-in-Op : goal.returns-in-Op
+unfolding capped
 returns-in-Op t c =
     let a = c.args in
-    c.cap.ensures
+    c.min.ensures
     ∙ op_size a.nodes.now a.left.now a.k c.requires.1 _ (sym c.node_at-node.ensures ∙ c.in-Op.is) c.node_size-one.ensures c.node_size-other.ensures
 
 pub returns-in-Shift : goal.returns-in-Shift
+unfolding capped
 returns-in-Shift t c =
     let a = c.args in
-    c.cap-in-Shift.ensures
+    c.min-in-Shift.ensures
     ∙ shift_size a.nodes.now a.left.now a.k c.requires.1 _ (sym c.node_at-node.ensures ∙ c.in-Shift.is) c.node_size-one-in-Shift.ensures
