@@ -1,3 +1,4 @@
 pub mod LineLaws
 pub mod AddressLaws
 pub mod BareLaws
+pub mod StepLaws
