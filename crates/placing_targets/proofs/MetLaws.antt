@@ -11,6 +11,7 @@ use borrow.Author.Tests.{ltb-true, ltb-false, eqb-true, eqb-false}
 use lib.Dec.{ltb, eqb}
 use lib.ListN.{length, get_or, set, replicate}
 use lib.Seq.{get_or-set_same, get_or-set_other}
+use Rattle.std.proofs.lemmas.List.{get_or-replicate}
 use Rattle.rules.specs.Limits.{vector_bytes}
 use Rattle.rules.specs.Offsets.{store_offset}
 use Rattle.rules.specs.Placing.{times}
@@ -21,14 +22,9 @@ use Rattle.placing_targets.specs.Met.{meets, met_in, Counted, count_at, Largest,
 
 -- ---- counting
 
-zeros : (n x : ℕ) → ◌≡◌ {A = ℕ} (get_or (replicate n 0) x 0) 0
-zeros zero x = refl
-zeros (suc n) zero = refl
-zeros (suc n) (suc x) = zeros n x
-
 counted_none : (W : ℕ) → Counted W [] (replicate W 0)
 unfolding Counted
-counted_none W x h = zeros W x
+counted_none W x h = get_or-replicate W x 0 0 h
 
 counted_next : (W a v : ℕ) (met counts : List ℕ) → a < W → W ≤ length counts → Counted W met counts → v ≡ get_or counts a 0 + 1
     → Counted W (a ∷ met) (set counts a v)
@@ -68,12 +64,15 @@ counted_most W node before k counts h x p =
     omega (arith, h x p, times_length x (met_in W node before k), met_length W node before k)
 
 -- the store alone
-pub counted_store : (c : ℕ) (node : ℕ → Node) → c < vector_bytes
-    → Counted vector_bytes (met_in vector_bytes node (c ∷ []) 0) (set (replicate vector_bytes 0) c 1)
+pub counted_store : (S : ℕ) (node : ℕ → Node)
+    → let c = store_offset vector_bytes S in
+    Counted vector_bytes (met_in vector_bytes node (c ∷ []) 0) (set (replicate vector_bytes 0) c 1)
 unfolding met_in
-counted_store c node below =
+counted_store S node =
+    let c = store_offset vector_bytes S in
+    let below : c < vector_bytes = mod-lt S (omega arith) in
     counted_next vector_bytes c 1 [] (replicate vector_bytes 0) below (omega arith) (counted_none vector_bytes)
-    (rw (zeros vector_bytes c))
+    (rw (get_or-replicate {A = ℕ} vector_bytes c 0 0 below))
 
 -- a node more
 met_next : (W : ℕ) (node : ℕ → Node) (before : List ℕ) (k : ℕ) (n : Node) → node k ≡ n

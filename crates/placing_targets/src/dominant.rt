@@ -1,6 +1,7 @@
 // DOMINANT's offset: how often each offset is met among the loads and the store, and which is met most often.
-ghost use Rattle.std.specs.Prelude.{◌≡◌, [], ◌∷◌, ◌<◌};
+ghost use Rattle.std.specs.Prelude.{◌≡◌, [], ◌∷◌};
 ghost use Rattle.rules.specs.Limits.{vector_bytes};
+ghost use Rattle.rules.specs.Offsets.{store_offset};
 ghost use Rattle.rules.specs.Trees.{bytes, node_at};
 ghost use Rattle.placing_targets.specs.Met.{met_in, Counted, count_at, Largest, dominant_in};
 
@@ -9,39 +10,35 @@ use rules::limits::V;
 use rules::nodes::Node;
 use rules::units::ByteOffset;
 
-const OFFSETS: usize = 16;
+// An offset is below V.
+const OFFSETS: usize = V as usize;
 
-// Each load is counted once, and the store, which stands at c, once.
-fn count_met(nodes: &[u64], count: u8, c: ByteOffset) -> [u16; 16]
-    requires { c.0 < vector_bytes }
-    ensures { Counted vector_bytes (met_in vector_bytes (node_at nodes.now) (c.0 ∷ []) count) result }
+// How often each offset is met.
+type Counts = [u16; OFFSETS];
+
+// Each load is counted once, and the store once.
+fn count_met(head: Header, nodes: &[u64]) -> Counts
+    ensures { Counted vector_bytes (met_in vector_bytes (node_at nodes.now) (store_offset vector_bytes head.store.0 ∷ []) head.count) result }
 {
-    let mut counts = [0u16; 16];
-    let store = c.0 as usize;
-    counts[store] = 1;
-    let mut k: u8 = 0;
-    while k < count {
-        let node = tables::node_at(nodes, k);
-        if let Node::Load(load) = node {
-            let at = (load.address.0 % V) as usize;
-            counts[at] = counts[at] + 1;
+    let mut counts = [0; OFFSETS];
+    counts[(head.store.0 % V) as usize] = 1;
+    for k in 0..head.count {
+        if let Node::Load(load) = tables::node_at(nodes, k) {
+            counts[(load.address.0 % V) as usize] += 1;
         }
-        k = k + 1;
     }
     counts
 }
 
 // The offset with the largest count, the smallest on a tie.
-fn most_met(counts: &[u16; 16]) -> usize
+fn most_met(counts: &Counts) -> usize
     ensures { Largest (count_at counts.now) vector_bytes result }
 {
     let mut most = 0;
-    let mut x = 1;
-    while x < OFFSETS {
+    for x in 1..OFFSETS {
         if counts[most] < counts[x] {
             most = x;
         }
-        x = x + 1;
     }
     most
 }
@@ -50,8 +47,6 @@ fn most_met(counts: &[u16; 16]) -> usize
 pub(crate) fn dominant(head: Header, nodes: &[u64]) -> ByteOffset
     ensures { result ≡ bytes (dominant_in vector_bytes head.store.0 (node_at nodes.now) head.count) }
 {
-    let c = ByteOffset(head.store.0 % V);
-    let counts = count_met(nodes, head.count, c);
-    let most = most_met(&counts);
-    ByteOffset(most as u64)
+    let counts = count_met(head, nodes);
+    ByteOffset(most_met(&counts) as u64)
 }

@@ -1,11 +1,12 @@
-// What a placing rule moves, and where: 0 ZERO, 1 EAGER, 2 LAZY, 3 DOMINANT. Every table is answered for, also one that does not
-// pass as a graph: DOMINANT goes by its rows.
+// What a placing rule moves, and where. Every table is answered for, also one that does not pass as a graph: DOMINANT goes by its
+// rows.
 #![tactic(auto)]
 
 mod dominant;
 
 ghost use Rattle.std.specs.Prelude.{◌≡◌};
 ghost use Rattle.rules.specs.Limits.{vector_bytes};
+ghost use Rattle.rules.specs.Kinds.{rule_number};
 ghost use Rattle.rules.specs.Trees.{node_at};
 ghost use Rattle.rules.specs.declared.nodes.Offset.TheVariants.{Undefined};
 ghost use Rattle.placing_targets.specs.Met.{dominant_in};
@@ -13,6 +14,7 @@ ghost use Rattle.placing_targets.specs.Rules.{at, moves, moves_of};
 
 use crate::dominant::dominant;
 use graph::Header;
+use rules::kinds::Rule;
 use rules::limits::V;
 use rules::nodes::Offset;
 use rules::units::ByteOffset;
@@ -45,15 +47,16 @@ fn inputs_to(g: ByteOffset) -> Moves
 }
 
 // Of a rule, for the nodes of a table.
-pub fn moves_of(rule: u64, head: Header, nodes: &[u64]) -> Moves
-    ensures { result ≡ moves_of vector_bytes head.store.0 rule (dominant_in vector_bytes head.store.0 (node_at nodes.now) head.count) }
+#[tactic(auto, unfolding(crate::specs::Rules::moves_of))]
+pub fn moves_of(rule: Rule, head: Header, nodes: &[u64]) -> Moves
+    ensures { result ≡ moves_of vector_bytes head.store.0 (rule_number rule) (dominant_in vector_bytes head.store.0 (node_at nodes.now) head.count) }
 {
     let zero = ByteOffset(0);
     let c = ByteOffset(head.store.0 % V);
     match rule {
-        0 => loads_to(zero),
-        1 => loads_to(c),
-        2 => inputs_to(c),
-        _ => inputs_to(dominant(head, nodes)),
+        Rule::Zero => loads_to(zero),
+        Rule::Eager => loads_to(c),
+        Rule::Lazy => inputs_to(c),
+        Rule::Dominant => inputs_to(dominant(head, nodes)),
     }
 }

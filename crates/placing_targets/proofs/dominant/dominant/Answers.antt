@@ -9,4 +9,4 @@ returns c =
     let a = c.args in
     ap bytes
     (counted_dominant a.head.store.0 (node_at a.nodes.now) a.head.count _ _ c.count_met-counts.ensures
-    c.most_met-most.ensures)
+    c.most_met.ensures)
