@@ -24,5 +24,6 @@ pub mod Accepted
 pub mod Handed
 pub mod Unrefused
 pub mod AnswerLaws
+pub mod CallNumbers
 pub mod Demands
 pub mod Stepwise

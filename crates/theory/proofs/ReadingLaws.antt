@@ -28,7 +28,7 @@ use Rattle.rules.specs.declared.sheet.Row.{Row}
 use Rattle.rules.specs.declared.sheet.Cursor.{Cursor}
 use Rattle.rules.specs.declared.sheet.NodeRead.{NodeRead}
 use Rattle.rules.specs.declared.answers.Refusal.{Refusal}
-use Rattle.rules.specs.declared.answers.Refusal.TheVariants.{Room, Line, Range, Shape, Bare, Window, Align, Bounds, Carry, Offset, Long, Out, Fault}
+use Rattle.rules.specs.declared.answers.Refusal.TheVariants.{Line, Range, Shape}
 
 -- ---- a line takes at most 27 bytes
 
