@@ -9,14 +9,16 @@ use native.Mathlib.Numerals.{add-one}
 use borrow.Author.Tests.{lt-ltb, le-ltb}
 use lib.ListN.{length}
 use Rattle.rules.specs.Limits.{vector_bytes}
-use Rattle.rules.specs.Answers.{Answer, DONE, WINDOW, OUT, FAULT, done, of_run}
+use Rattle.std.specs.Prelude.{Result, Ok, Err}
+use Rattle.rules.specs.Answers.{Answer, DONE, OUT, FAULT, after, done, of_refusal}
 use Rattle.rules.specs.Machine.{State, sound, effect, instruction_at, instructions_from, Program, Timed, in_pass, passes, trace, Standing, standing, next, step, runs, blank, start}
 use Rattle.rules.specs.Tables.{program_in}
 use Rattle.rules.specs.Calls.{WithWork, start_answer, started, ended, running}
-use Rattle.rules.specs.declared.answers.RunAnswer.{RunAnswer}
-use Rattle.rules.specs.declared.answers.RunAnswer.TheVariants as Run
+use Rattle.rules.specs.declared.answers.Refusal.{Refusal}
+use Rattle.rules.specs.declared.answers.Refusal.TheVariants.{Room, Line, Range, Shape, Bare, Window, Align, Bounds, Carry, Offset, Long, Out, Fault}
 use Rattle.rules.specs.declared.program.Instruction.{Instruction}
 use Rattle.rules.specs.declared.program.ProgramHead.{ProgramHead}
+use Rattle.theory.proofs.AnswerLaws.{refusal_not_done}
 use Rattle.machine_kinds.specs.Trying.{Tried, tried, state, of_state, try_as}
 use Rattle.machine.specs.Running.{stood, ran}
 
@@ -77,6 +79,7 @@ module _ (D : ℕ) (table : List ℕ) (budget : ℕ) where
   abbrev pub run : Standing → List Timed → Standing
   run m ts = runs vector_bytes D table budget m ts
 
+  -- a run that has stopped stays
   pub run_stopped : (a k : ℕ) (s : State) (ts : List Timed) → run (standing (suc a) k s) ts ≡ standing (suc a) k s
   unfolding runs step
   run_stopped a k s [] = refl
@@ -137,60 +140,68 @@ module _ (D : ℕ) (table : List ℕ) (budget : ℕ) where
 
   -- ---- one part after another
 
-  -- an answer that is not Done, as a match says it
-  abbrev pub Other : RunAnswer → Type 0
-  Other r = (k : ℕ) → r ≡ Run.Done k → ⊥
-
   module _ (m : Standing) (ts us : List Timed) (regs : List (List ℕ)) (work : List ℕ) where
     -- a part that is done: the run goes on from there
-    pub part_done : (r : RunAnswer) (k : ℕ) → r ≡ Run.Done k → stood r regs work ≡ run m ts
-        → run (standing DONE k (state regs work)) us ≡ run m (ts ++ us)
-    part_done r k q e = rw (rw q at e) (sym (run_append m ts us))
+    pub part_done : (k : ℕ) → stood (Ok k) regs work ≡ run m ts → run (standing DONE k (state regs work)) us ≡ run m (ts ++ us)
+    part_done k e = rw e (sym (run_append m ts us))
 
     -- a part that has stopped: so has the run
-    pub part_stopped : (r : RunAnswer) → Other r → stood r regs work ≡ run m ts
-        → stood r regs work ≡ run m (ts ++ us)
-    part_stopped r other e = sym (run_append m ts us ∙ rw (← e) (go r other))
+    pub part_stopped : (r : Refusal) → stood (Err r) regs work ≡ run m ts → stood (Err r) regs work ≡ run m (ts ++ us)
+    part_stopped r e = sym (run_append m ts us ∙ rw (← e) (go (of_refusal r).number (refusal_not_done r)))
       where
-        go : (r : RunAnswer) → Other r → run (stood r regs work) us ≡ stood r regs work
-        go (Run.Done k) h = absurd (h k refl)
-        go Run.Room h = run_stopped 0 0 (state regs work) us
-        go (Run.Window p) h = run_stopped 5 0 (state regs work) us
-        go (Run.Out k) h = run_stopped 11 k (state regs work) us
-        go (Run.Fault k) h = run_stopped 12 k (state regs work) us
+        go : (number : ℕ) → DONE < number
+            → run (standing number (of_refusal r).steps (state regs work)) us ≡ standing number (of_refusal r).steps (state regs work)
+        go zero above = absurd (omega arith)
+        go (suc number) above = run_stopped number (of_refusal r).steps (state regs work) us
 
   -- ---- the answer of a run
 
-  -- WINDOW, whose place need not be 0, is never the number of a run
-  next_number : (number : ℕ) (within fine : Bool) (k : ℕ) (before then : State) → (number ≡ WINDOW → ⊥)
-      → (next number within fine k before then).number ≡ WINDOW → ⊥
-  next_number (suc number) within fine k before then h e = h e
-  next_number zero false fine k before then h e = omega arith
-  next_number zero true false k before then h e = omega arith
-  next_number zero true true k before then h e = omega arith
+  -- a run that has stopped is OUT or FAULT
+  abbrev Late : ℕ → Type 0
+  Late number = DONE < number → OUT ≤ number
 
-  run_number : (m : Standing) (ts : List Timed) → (m.number ≡ WINDOW → ⊥) → (run m ts).number ≡ WINDOW → ⊥
+  next_late : (number : ℕ) (within fine : Bool) (k : ℕ) (before then : State) → Late number
+      → Late (next number within fine k before then).number
+  next_late (suc number) within fine k before then late above = late above
+  next_late zero false fine k before then late above = omega arith
+  next_late zero true false k before then late above = omega arith
+  next_late zero true true k before then late above = late above
+
+  run_late : (m : Standing) (ts : List Timed) → Late m.number → Late (run m ts).number
   unfolding runs step
-  run_number m [] h e = h e
-  run_number m (t ∷ ts) h e =
-      run_number (step vector_bytes D table budget m t) ts (next_number m.number _ _ m.steps m.state _ h) e
+  run_late m [] late = late
+  run_late m (t ∷ ts) late =
+      run_late (step vector_bytes D table budget m t) ts (next_late m.number _ _ m.steps m.state _ late)
 
-  pub run_ends : (k : ℕ) (s : State) (ts : List Timed) (r : RunAnswer) (regs : List (List ℕ)) (work : List ℕ)
+  -- and has no place
+  no_place : (r : Refusal) → OUT ≤ (of_refusal r).number → of_refusal r ≡ after (of_refusal r).number (of_refusal r).steps
+  no_place (Out k) late = refl
+  no_place (Fault k) late = refl
+  no_place Room late = absurd (omega arith)
+  no_place (Line p) late = absurd (omega arith)
+  no_place (Range p) late = absurd (omega arith)
+  no_place (Shape p) late = absurd (omega arith)
+  no_place (Bare p) late = absurd (omega arith)
+  no_place (Window p) late = absurd (omega arith)
+  no_place (Align p) late = absurd (omega arith)
+  no_place (Bounds p) late = absurd (omega arith)
+  no_place (Carry p) late = absurd (omega arith)
+  no_place (Offset p) late = absurd (omega arith)
+  no_place Long late = absurd (omega arith)
+
+  pub run_ends : (k : ℕ) (s : State) (ts : List Timed) (r : Result ℕ Refusal) (regs : List (List ℕ)) (work : List ℕ)
       → stood r regs work ≡ run (standing DONE k s) ts → ran r work ≡ ended (run (standing DONE k s) ts)
-  run_ends k s ts r regs work e = go r e (run_number (standing DONE k s) ts (λ z. omega arith))
-    where
-      go : (r : RunAnswer) → stood r regs work ≡ run (standing DONE k s) ts → ((run (standing DONE k s) ts).number ≡ WINDOW → ⊥)
-          → ran r work ≡ ended (run (standing DONE k s) ts)
-      go (Run.Done n) e h = ap ended e
-      go Run.Room e h = ap ended e
-      go (Run.Window p) e h = absurd (h (sym (ap (λ (m : Standing). m.number) e)))
-      go (Run.Out n) e h = ap ended e
-      go (Run.Fault n) e h = ap ended e
+  run_ends k s ts (Ok n) regs work e = ap ended e
+  run_ends k s ts (Err r) regs work e =
+      let late : Late (of_refusal r).number = rw (← e) at (run_late (standing DONE k s) ts (λ above. absurd (omega arith))) in
+      ap (λ (a : Answer). record { answer = a; work = work }) (no_place r (late (refusal_not_done r))) ∙ ap ended e
 
   -- ---- the three sections
 
-  module _ (p : Program) (work : List ℕ) (a : RunAnswer) (regs₁ : List (List ℕ)) (work₁ : List ℕ)
-      (ea : stood a regs₁ work₁ ≡ run (start vector_bytes work) (in_pass 0 p.prologue)) where
+  module _ (p : Program) (work : List ℕ) where
+    abbrev first : List Timed
+    first = in_pass 0 p.prologue
+
     abbrev middle : List Timed
     middle = passes (p.full - 1) 1 p.body
 
@@ -200,29 +211,31 @@ module _ (D : ℕ) (table : List ℕ) (budget : ℕ) where
     abbrev whole : Standing
     whole = run (start vector_bytes work) (trace p)
 
-    ended_so : (r : RunAnswer) (regs : List (List ℕ)) (work' : List ℕ) → stood r regs work' ≡ whole → ran r work' ≡ ended whole
+    ended_so : (r : Result ℕ Refusal) (regs : List (List ℕ)) (work' : List ℕ) → stood r regs work' ≡ whole → ran r work' ≡ ended whole
     ended_so r regs work' e = run_ends 0 (state (blank vector_bytes) work) (trace p) r regs work' e
 
-    pub prologue_stops : Other a → ran a work₁ ≡ ended whole
+    pub prologue_stops : (r : Refusal) (regs₁ : List (List ℕ)) (work₁ : List ℕ)
+        → stood (Err r) regs₁ work₁ ≡ run (start vector_bytes work) first → ran (Err r) work₁ ≡ ended whole
     unfolding trace
-    prologue_stops o =
-        ended_so a regs₁ work₁ (part_stopped (start vector_bytes work) (in_pass 0 p.prologue) (middle ++ last) regs₁ work₁ a o ea)
+    prologue_stops r regs₁ work₁ e = ended_so (Err r) regs₁ work₁ (part_stopped (start vector_bytes work) first (middle ++ last) regs₁ work₁ r e)
 
-    module _ (k : ℕ) (da : a ≡ Run.Done k) (b : RunAnswer) (regs₂ : List (List ℕ)) (work₂ : List ℕ)
-        (eb : stood b regs₂ work₂ ≡ run (standing DONE k (state regs₁ work₁)) middle) where
+    module _ (k : ℕ) (regs₁ : List (List ℕ)) (work₁ : List ℕ) (ea : stood (Ok k) regs₁ work₁ ≡ run (start vector_bytes work) first) where
       prologue_done : run (standing DONE k (state regs₁ work₁)) (middle ++ last) ≡ whole
       unfolding trace
-      prologue_done = part_done (start vector_bytes work) (in_pass 0 p.prologue) (middle ++ last) regs₁ work₁ a k da ea
+      prologue_done = part_done (start vector_bytes work) first (middle ++ last) regs₁ work₁ k ea
 
-      pub body_stops : Other b → ran b work₂ ≡ ended whole
-      body_stops o =
-          ended_so b regs₂ work₂ (part_stopped (standing DONE k (state regs₁ work₁)) middle last regs₂ work₂ b o eb ∙ prologue_done)
+      pub body_stops : (r : Refusal) (regs₂ : List (List ℕ)) (work₂ : List ℕ)
+          → stood (Err r) regs₂ work₂ ≡ run (standing DONE k (state regs₁ work₁)) middle → ran (Err r) work₂ ≡ ended whole
+      body_stops r regs₂ work₂ e =
+          ended_so (Err r) regs₂ work₂ (part_stopped (standing DONE k (state regs₁ work₁)) middle last regs₂ work₂ r e ∙ prologue_done)
 
-      pub epilogue_ends : (l : ℕ) → b ≡ Run.Done l → (c : RunAnswer) (regs₃ : List (List ℕ)) (work₃ : List ℕ)
+      pub epilogue_ends : (l : ℕ) (regs₂ : List (List ℕ)) (work₂ : List ℕ)
+          → stood (Ok l) regs₂ work₂ ≡ run (standing DONE k (state regs₁ work₁)) middle
+          → (c : Result ℕ Refusal) (regs₃ : List (List ℕ)) (work₃ : List ℕ)
           → stood c regs₃ work₃ ≡ run (standing DONE l (state regs₂ work₂)) last → ran c work₃ ≡ ended whole
-      epilogue_ends l db c regs₃ work₃ ec =
+      epilogue_ends l regs₂ work₂ eb c regs₃ work₃ ec =
           ended_so c regs₃ work₃
-          (ec ∙ part_done (standing DONE k (state regs₁ work₁)) middle last regs₂ work₂ b l db eb ∙ prologue_done)
+          (ec ∙ part_done (standing DONE k (state regs₁ work₁)) middle last regs₂ work₂ l eb ∙ prologue_done)
 
 -- ---- from the checks on
 
@@ -239,14 +252,11 @@ module _ (h : ProgramHead) (prologue body epilogue work table : List ℕ) where
     unfolding running
     run_goes D d e x q = q ∙ rw d (ap (λ (a : Answer). started a.number a work (outcome h.d)) e)
 
-    pub run_refused : (r : RunAnswer) → ((of_run r).number ≡ DONE → ⊥) → of_run r ≡ found
-        → ran r work ≡ running vector_bytes h prologue body epilogue budget work table
+    pub run_refused : (r : Refusal) → of_refusal r ≡ found
+        → ran (Err r) work ≡ running vector_bytes h prologue body epilogue budget work table
     unfolding running
-    run_refused r ne e = go (of_run r) ne ∙ ap (λ (a : Answer). started a.number a work (outcome h.d)) e
+    run_refused r e = go (of_refusal r).number (refusal_not_done r) ∙ ap (λ (a : Answer). started a.number a work (outcome h.d)) e
       where
-        go : (a : Answer) → (a.number ≡ DONE → ⊥) → record { answer = a; work = work } ≡ started a.number a work (outcome h.d)
-        go a ne = at_number a.number ne
-          where
-            at_number : (n : ℕ) → (n ≡ DONE → ⊥) → record { answer = a; work = work } ≡ started n a work (outcome h.d)
-            at_number zero ne = absurd (ne refl)
-            at_number (suc n) ne = refl
+        go : (n : ℕ) → DONE < n → record { answer = of_refusal r; work = work } ≡ started n (of_refusal r) work (outcome h.d)
+        go zero above = absurd (omega arith)
+        go (suc n) above = refl

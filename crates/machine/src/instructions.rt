@@ -1,14 +1,14 @@
-// One instruction in one pass (document 01, "Vector code"), picked by its kind, and the splat, which goes by what its section found
+// One instruction in one pass (document 01, "Vector code"), picked by its kind, and the splat, which goes by what its run found
 // of an element. False is a FAULT, and then nothing is changed.
 ghost use Rattle.std.specs.Prelude.{◌≡◌};
 ghost use Rattle.rules.specs.Units.{width_bytes};
 ghost use Rattle.rules.specs.Frames.{splat_kind};
 ghost use Rattle.rules.specs.Machine.{splat_value};
 ghost use Rattle.machine_kinds.specs.Trying.{tried, try_as, Tries};
-ghost use Rattle.machine.specs.Spreading.{Spreads};
 
 use crate::elements::Element;
 use machine_kinds::REGISTERS;
+use rules::kinds::InstructionKind;
 use rules::limits::LOW_VALUES;
 use rules::program::Instruction;
 use rules::units::{VectorNumber, Width};
@@ -16,12 +16,11 @@ use rules::units::{VectorNumber, Width};
 fn splat_value(i: Instruction) -> u64
     ensures { result ≡ splat_value i }
 {
-    (i.low as u64) + LOW_VALUES * (i.high as u64)
+    u64::from(i.low) + LOW_VALUES * u64::from(i.high)
 }
 
 // One product is the value in every element of eight bytes, whatever the width.
 fn do_splat(element: Element, i: Instruction, registers: &mut [[u8; 16]; 1024]) -> bool
-    requires { Spreads element }
     ensures { Tries splat_kind (width_bytes element.width) i result registers.old registers.new }
 {
     if REGISTERS <= i.destination {
@@ -31,8 +30,7 @@ fn do_splat(element: Element, i: Instruction, registers: &mut [[u8; 16]; 1024]) 
     if element.largest < value {
         return false;
     }
-    let spread = value * element.ones;
-    let v = vector_bytes::vsplat(Width::Eight, spread);
+    let v = vector_bytes::vsplat(Width::Eight, value * element.ones);
     registers[i.destination as usize] = v;
     true
 }
@@ -45,18 +43,15 @@ pub(crate) fn act(
     work: &mut [u8],
     table: &[u8],
 ) -> bool
-    requires { Spreads element }
     ensures { tried result registers.new work.new ≡ try_as i.kind (width_bytes element.width) table.now pass.0 i registers.old work.old }
 {
-    let width = element.width;
-    let kind = i.kind;
-    match kind {
-        1 => machine_kinds::do_load(i, pass, registers, work, table),
-        2 => do_splat(element, i, registers),
-        3 => machine_kinds::do_op(width, i, registers),
-        4 => machine_kinds::do_pair(i, registers),
-        5 => machine_kinds::do_splice(i, registers),
-        6 => machine_kinds::do_store(i, pass, registers, work),
-        _ => false,
+    match InstructionKind::try_from(i.kind) {
+        Ok(InstructionKind::Load) => machine_kinds::do_load(i, pass, registers, work, table),
+        Ok(InstructionKind::Splat) => do_splat(element, i, registers),
+        Ok(InstructionKind::Op) => machine_kinds::do_op(element.width, i, registers),
+        Ok(InstructionKind::Pair) => machine_kinds::do_pair(i, registers),
+        Ok(InstructionKind::Splice) => machine_kinds::do_splice(i, registers),
+        Ok(InstructionKind::Store) => machine_kinds::do_store(i, pass, registers, work),
+        Err(_) => false,
     }
 }

@@ -4,17 +4,20 @@
 mod elements;
 mod instructions;
 mod passes;
+mod sections;
 
 ghost use Rattle.std.specs.Prelude.{◌≡◌};
 ghost use Rattle.rules.specs.Limits.{vector_bytes};
 ghost use Rattle.rules.specs.Calls.{running};
 ghost use Rattle.machine.specs.Running.{ran};
 
-use refusals_machine::Start;
-use rules::answers::RunAnswer;
+use crate::elements::Element;
+use crate::passes::Run;
+use crate::sections::Section;
+use rules::answers::Refusal;
 use rules::program::ProgramHead;
 
-// Runs a program on a budget of steps. Work holds what was stored, also where the run stopped.
+// Runs a program on a budget of steps, and gives the steps done. Work holds what was stored, also where the run stopped.
 pub fn run(
     head: ProgramHead,
     prologue: &[u32],
@@ -23,14 +26,26 @@ pub fn run(
     budget: u64,
     work: &mut [u8],
     table: &[u8],
-) -> RunAnswer
+) -> Result<u64, Refusal>
     ensures { ran result work.new ≡ running vector_bytes head prologue.now body.now epilogue.now budget work.old table.now }
 {
-    let found = refusals_machine::begin(head, prologue, body, epilogue, work, table);
-    match found {
-        Start::Go(width) => passes::sections(
-            width, head, prologue, body, epilogue, budget, work, table,
-        ),
-        Start::Refused(answer) => answer,
-    }
+    let width = refusals_machine::begin(head, prologue, body, epilogue, work, table)?;
+    let run = Run {
+        element: Element::from(width),
+        budget,
+        table,
+    };
+    let prologue = Section {
+        entries: prologue,
+        rows: head.prologue,
+    };
+    let body = Section {
+        entries: body,
+        rows: head.body,
+    };
+    let epilogue = Section {
+        entries: epilogue,
+        rows: head.epilogue,
+    };
+    run.sections(head.f, prologue, body, epilogue, work)
 }

@@ -19,18 +19,18 @@ unfolding try_as fields_as reaches_as effect_as
 returns-then-element-value c table j work =
     let value = c.splat_value-value.result in
     let bound = modulus (width_bytes c.args.element.width) in
-    let reached : bound ≤ value = omega (arith, c.requires.bound, c.if-element-value.true) in
+    let reached : bound ≤ value = omega (arith, c.args.element.bound, c.if-element-value.true) in
     simp (lt-ltb _ 1024 c.if-i-ge-REGISTERS.false, ← c.splat_value-value.ensures, le-ltb value bound reached)
 
-pub overflow_mul-spread : goal.overflow_mul-spread
-overflow_mul-spread c =
-    record { fits = lt_of_le_of_lt (mul-le-mul_right c.args.element.ones c.if-element-value.false) c.requires.room }
+pub overflow_mul-value : goal.overflow_mul-value
+overflow_mul-value c =
+    record { fits = lt_of_le_of_lt (mul-le-mul_right c.args.element.ones c.if-element-value.false) c.args.element.room }
 
 pub returns : goal.returns
 unfolding try_as fields_as reaches_as effect_as
 returns c table j work =
     let value = c.splat_value-value.result in
     let bound = modulus (width_bytes c.args.element.width) in
-    let below : value < bound = omega (arith, c.requires.bound, c.if-element-value.false) in
-    let spread = c.vsplat-v.ensures ∙ c.requires.spread value c.if-element-value.false in
+    let below : value < bound = omega (arith, c.args.element.bound, c.if-element-value.false) in
+    let spread = c.vsplat-v.ensures ∙ c.args.element.spread value c.if-element-value.false in
     simp (lt-ltb _ 1024 c.if-i-ge-REGISTERS.false, ← c.splat_value-value.ensures, lt-ltb value bound below, spread)
