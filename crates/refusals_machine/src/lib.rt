@@ -5,7 +5,7 @@ ghost use Rattle.std.specs.Prelude.{◌≡◌, ◌||◌, IfOk, length};
 ghost use Rattle.rules.specs.Limits.{vector_bytes};
 ghost use Rattle.rules.specs.Units.{width_bytes};
 ghost use Rattle.rules.specs.Answers.{of_result};
-ghost use Rattle.rules.specs.Checks.{section_long, start_fault};
+ghost use Rattle.rules.specs.Checks.{room_check, section_long, start_fault};
 ghost use Rattle.rules.specs.Calls.{start_answer};
 
 use rules::answers::Refusal;
@@ -24,13 +24,17 @@ fn section_long(rows: u64, section: &[u32]) -> bool
     SECTION_MOST < rows || section.len() < INSTRUCTION_ENTRIES * rows as usize
 }
 
-// Whether a section is too long.
-fn sections_long(head: ProgramHead, prologue: &[u32], body: &[u32], epilogue: &[u32]) -> bool
-    ensures { result ≡ (section_long head.prologue prologue.now || section_long head.body body.now || section_long head.epilogue epilogue.now) }
+// ROOM: one of the sections is too long.
+fn room(head: ProgramHead, prologue: &[u32], body: &[u32], epilogue: &[u32]) -> Result<(), Refusal>
+    ensures { of_result result ≡ room_check (section_long head.prologue prologue.now || section_long head.body body.now || section_long head.epilogue epilogue.now) }
 {
-    section_long(head.prologue, prologue)
+    if section_long(head.prologue, prologue)
         || section_long(head.body, body)
         || section_long(head.epilogue, epilogue)
+    {
+        return Err(Refusal::Room);
+    }
+    Ok(())
 }
 
 // A FAULT at the start, for a D that is no width or an F above 2,048.
@@ -46,7 +50,7 @@ fn start_width(head: ProgramHead) -> Result<Width, Refusal>
 }
 
 // What is found before the first step, or the width that the run goes on.
-#[tactic(auto, using(crate::proofs::StartLaws::room_found, crate::proofs::StartLaws::window_found, crate::proofs::StartLaws::head_found))]
+#[tactic(auto, using(graph_lines::proofs::StepLaws::steps))]
 pub fn begin(
     head: ProgramHead,
     prologue: &[u32],
@@ -58,9 +62,7 @@ pub fn begin(
     ensures result_value { of_result result ≡ start_answer vector_bytes head prologue.now body.now epilogue.now (length work.now) (length table.now) }
     ensures widens { IfOk result (λ width. width_bytes width ≡ head.d) }
 {
-    if sections_long(head, prologue, body, epilogue) {
-        return Err(Refusal::Room);
-    }
+    room(head, prologue, body, epilogue)?;
     graph_lines::windows(work.len() as u64, table.len() as u64)?;
     start_width(head)
 }
