@@ -5,20 +5,19 @@ use mathlib.Core.Path.{◌≡◌, refl, ◌∙◌}
 use mathlib.Core.List.{List, [], ◌∷◌, ◌++◌}
 use native.Mathlib.Omega.{arith}
 use lib.ListN.{length, length-append, length-set}
+use Rattle.std.specs.Prelude.{Option, Some, None, Result, Ok, Err}
 use Rattle.rules.specs.Reading.{line_at, refused, follow, lines_from}
 use Rattle.rules.specs.Tables.{padded}
 use Rattle.theory.proofs.ReadingLaws.{NodeAfter, LineDoes, line_does}
 use Rattle.tables.specs.Rows.{row_put}
 use Rattle.tables.proofs.TableLaws.{padded_put_row}
-use Rattle.rules.specs.declared.answers.ReadAnswer.{ReadAnswer}
-use Rattle.rules.specs.declared.answers.ReadAnswer.TheVariants.{Done}
+use Rattle.rules.specs.declared.answers.Refusal.{Refusal}
+use Rattle.rules.specs.declared.answers.Refusal.TheVariants.{Room}
 use Rattle.rules.specs.declared.sheet.Row.{Row}
 use Rattle.rules.specs.declared.sheet.Cursor.{Cursor}
-use Rattle.rules.specs.declared.sheet.LineStep.{LineStep}
-use Rattle.rules.specs.declared.sheet.LineStep.TheVariants.{Stop, End, Node}
+use Rattle.rules.specs.declared.sheet.NodeRead.{NodeRead}
 use Rattle.sheet.specs.Cursors.{Fresh, Reached}
 use Rattle.sheet.specs.Left.{LinesLeft}
-use Rattle.sheet.specs.declared.lines.Ending.TheVariants.{Nodes, Refused}
 
 module _ (text : List ℕ) (D len : ℕ) (first : Cursor) where
   pub record Going (here : Cursor) (table : List ℕ) : Type 0 where
@@ -51,7 +50,7 @@ module _ (text : List ℕ) (D len : ℕ) (first : Cursor) where
     reached = omega arith
 
     -- a line that is read last: how many more may follow does not matter
-    last_line : (step : LineStep) → line_at text D here ≡ step → (head : List ℕ) (end : Row → Cursor → _)
+    last_line : (step : Result (Option NodeRead) Refusal) → line_at text D here ≡ step → (head : List ℕ) (end : Row → Cursor → _)
         → ((next : Row → Cursor → _) → follow step here head g.rows next ≡ follow step here head g.rows end)
         → lines_from 64 text D first head [] ≡ follow step here head g.rows end
     unfolding lines_from
@@ -61,33 +60,34 @@ module _ (text : List ℕ) (D len : ℕ) (first : Cursor) where
         go zero = rw e (any _)
         go (suc more) = rw e (any _)
 
-    pub stops : (answer : ReadAnswer) (left : List ℕ) → line_at text D here ≡ Stop answer → left ≡ padded (length table) []
-        → LinesLeft text D first len (Refused answer) left
-    stops answer left e z =
+    pub stops : (refusal : Refusal) → line_at text D here ≡ Err refusal → LinesLeft text D first len (Err refusal) table
+    stops refusal e =
         record {
           nodes = [];
-          table_is = z ∙ rw g.long;
-          sheet_is = λ head. last_line (Stop answer) e head (λ row there. refused answer) (λ next. refl);
+          table_is = tt;
+          sheet_is = λ head. last_line (Err refusal) e head (λ row there. refused refusal) (λ next. refl);
         }
 
-    pub ends : line_at text D here ≡ End → LinesLeft text D first len (Nodes here.count) table
+    pub ends : line_at text D here ≡ Ok None → LinesLeft text D first len (Ok here.count) table
     ends e =
         record {
           nodes = g.rows;
           table_is = g.holds;
-          sheet_is = λ head. last_line End e head (λ row there. refused Done) (λ next. refl);
+          sheet_is = λ head. last_line (Ok None) e head (λ row there. refused Room) (λ next. refl);
         }
 
-    pub node_after : (row : Row) (there : Cursor) → line_at text D here ≡ Node row there → NodeAfter D here (here.at + 27) row there
-    node_after row there e =
-        let does : LineDoes D here (here.at + 27) (Node row there) = rw e at (line_does text D here) in
+    pub node_after : (node : NodeRead) → line_at text D here ≡ Ok (Some node) → NodeAfter D here (here.at + 27) node.row node.there
+    node_after node e =
+        let does : LineDoes D here (here.at + 27) (Ok (Some node)) = rw e at (line_does text D here) in
         does
 
-    pub more : (row : Row) (there : Cursor) → line_at text D here ≡ Node row there → 192 ≤ len
-        → Going there (row_put table here.count row)
+    pub more : (node : NodeRead) → line_at text D here ≡ Ok (Some node) → 192 ≤ len
+        → Going node.there (row_put table here.count node.row)
     unfolding lines_from
-    more row there e r =
-        let n = node_after row there e in
+    more node e r =
+        let row = node.row in
+        let there = node.there in
+        let n = node_after node e in
         let one : 64 - here.count ≡ suc (64 - there.count) = omega arith in
         record {
           rows = g.rows ++ row.kind ∷ row.x ∷ row.y ∷ [];

@@ -5,10 +5,10 @@ ghost use Rattle.rules.specs.Reading.{sheet_of, header_line};
 ghost use Rattle.sheet.specs.Cursors.{line_bytes};
 ghost use Rattle.sheet.specs.Left.{sheet_left, filled, Zeroed};
 
-use crate::lines::{Ending, read_lines};
-use rules::answers::ReadAnswer;
+use crate::lines::read_lines;
+use rules::answers::Refusal;
 use rules::limits::{FIRST_NODE_LINE, HEAD_COUNT, HEAD_D, HEAD_N, HEAD_S, HEADER_LINE};
-use rules::sheet::{Cursor, Fields, Frame};
+use rules::sheet::{Cursor, Fields};
 
 // Writes D, n, S and the number of nodes.
 fn put_head(head: &mut [u64], f: Fields, count: u64)
@@ -21,38 +21,36 @@ fn put_head(head: &mut [u64], f: Fields, count: u64)
 }
 
 // A sheet whose line 1 is a header.
-fn after_header(text: &[u8], f: Fields, head: &mut [u64], nodes: &mut [u64]) -> ReadAnswer
+fn after_header(text: &[u8], f: Fields, head: &mut [u64], nodes: &mut [u64]) -> Result<(), Refusal>
     requires next_le_line_bytes { f.next ≤ line_bytes }
     requires zeroed { Zeroed head.old nodes.old }
     ensures { sheet_left result head.new nodes.new ≡ filled (length head.old) (length nodes.old) (header_line text.now f) }
 {
     if !ranges::head_ok(f.x, f.y, f.z) {
-        return ReadAnswer::Range(HEADER_LINE);
+        return Err(Refusal::Range(HEADER_LINE));
     }
-    let width = ranges::width_of(f.x);
     let first = Cursor {
         at: f.next,
         line: FIRST_NODE_LINE,
         count: 0,
         waiting: 0,
     };
-    let ending = read_lines(text, width, first, nodes);
-    match ending {
-        Ending::Nodes(count) => {
+    match read_lines(text, ranges::width_of(f.x), first, nodes) {
+        Ok(count) => {
             put_head(head, f, count);
-            ReadAnswer::Done
+            Ok(())
         }
-        Ending::Refused(answer) => answer,
+        Err(refusal) => {
+            tables::clear(nodes);
+            Err(refusal)
+        }
     }
 }
 
-pub(crate) fn sheet(text: &[u8], head: &mut [u64], nodes: &mut [u64]) -> ReadAnswer
+pub(crate) fn sheet(text: &[u8], head: &mut [u64], nodes: &mut [u64]) -> Result<(), Refusal>
     requires { Zeroed head.old nodes.old }
     ensures { sheet_left result head.new nodes.new ≡ filled (length head.old) (length nodes.old) (sheet_of text.now) }
 {
-    let frame = sheet_frames::header_frame(text);
-    match frame {
-        Frame::Bad => ReadAnswer::Line(HEADER_LINE),
-        Frame::Is(f) => after_header(text, f, head, nodes),
-    }
+    let header = sheet_frames::header_frame(text).ok_or(Refusal::Line(HEADER_LINE))?;
+    after_header(text, header, head, nodes)
 }

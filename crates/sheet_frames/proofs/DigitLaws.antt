@@ -1,7 +1,7 @@
 -- Digits one by one: so many bytes are all digits if two parts of them are, and a number grows by a digit at its end. Bytes that are
 -- the same spell the same.
 use Prim.Native.Nat.{ℕ, zero, suc, ◌+◌, ◌-◌, ◌*◌, ◌^◌, ◌≤◌, ◌<◌}
-use mathlib.Core.Path.{◌≡◌, refl, sym, ap, ◌∙◌}
+use mathlib.Core.Path.{◌≡◌, refl, sym, ◌∙◌}
 use mathlib.Core.Bool.{Bool, true, false, cond, ◌||◌, or-true}
 use mathlib.Core.List.{List}
 use native.Mathlib.Nat.{zero-add, add-zero, suc-add, pow-suc, pow-le-pow_right}
@@ -11,7 +11,7 @@ use lib.ListN.{length, get_or, get_or-eq_default, drop}
 use Rattle.std.proofs.lemmas.List.{length-take, length-drop, get_or-take, get_or-drop}
 use lib.Dec.{ltb, leb, lit<}
 use borrow.Author.Tests.{leb-true, ltb-true, ltb-false, lt-ltb, le-ltb}
-use Rattle.std.specs.Prelude.{Option, Some, None}
+use Rattle.std.specs.Prelude.{Some, None}
 use Rattle.std.specs.List.{slice_range}
 use Rattle.rules.specs.Digits.{is_digit, digit_of, digit_run, spelled}
 use Rattle.sheet_frames.specs.Numbers.{digit_at, short, number_at}

@@ -30,7 +30,8 @@ fn frame<const X: usize, const Y: usize, const Z: usize>(text: &[u8], at: u32, k
     let y = x + X;
     let z = y + Y;
     let end = z + Z;
-    if *text.get(end)? != LINE_FEED {
+    let feed = *text.get(end)?;
+    if feed != LINE_FEED {
         return None;
     }
     Some(Fields {

@@ -1,14 +1,17 @@
 -- ROOM by the lengths; else the tables are cleared, and the sheet is read into them.
-use mathlib.Core.Bool.{or-true}
-use borrow.Author.Tests.{lt-ltb}
 use Rattle.sheet.proofs.SheetLaws.{no_room, zeroed, read_into}
 use Rattle.sheet.proofs.read.Goals as goal
+use mathlib.Core.Bool.{or-true}
+use borrow.Author.Tests.{lt-ltb}
+use Rattle.sheet.proofs.read.Goals.{then-head-lt-HEAD_ENTRIES-via-then-head-lt-HEAD_ENTRIES, then-head-lt-HEAD_ENTRIES-via-else-head-lt-HEAD_ENTRIES+then-nodes-lt-NODE_ENTRIES}
 
 pub returns-then-head-lt-HEAD_ENTRIES : goal.returns-then-head-lt-HEAD_ENTRIES
-returns-then-head-lt-HEAD_ENTRIES c = no_room _ _ _ (rw (lt-ltb _ 10 c.if-head-lt-HEAD_ENTRIES.true))
-
-pub returns-then-nodes-lt-NODE_ENTRIES : goal.returns-then-nodes-lt-NODE_ENTRIES
-returns-then-nodes-lt-NODE_ENTRIES c = no_room _ _ _ (rw (lt-ltb _ 192 c.if-nodes-lt-NODE_ENTRIES.true, or-true))
+returns-then-head-lt-HEAD_ENTRIES c =
+    elim c.then-head-lt-HEAD_ENTRIES.branch [
+      then-head-lt-HEAD_ENTRIES-via-then-head-lt-HEAD_ENTRIES w ↦ no_room _ _ _ (rw (lt-ltb _ 10 w.if-head-lt-HEAD_ENTRIES.true))
+    | then-head-lt-HEAD_ENTRIES-via-else-head-lt-HEAD_ENTRIES+then-nodes-lt-NODE_ENTRIES w ↦
+          no_room _ _ _ (rw (lt-ltb _ 192 w.if-nodes-lt-NODE_ENTRIES.true, or-true))
+    ]
 
 pub sheet-requires : goal.sheet-requires
 sheet-requires c =

@@ -1,40 +1,24 @@
+-- A line that refuses, a node, or the last.
 use native.Mathlib.Omega.{arith}
-use mathlib.Core.Path.{refl, sym, ◌∙◌}
-use Rattle.sheet.proofs.LineLaws.{begins, reached, stops, ends, node_after, more}
+use mathlib.Core.Path.{sym}
+use Rattle.std.proofs.lemmas.Result.{err_from_is_err_and}
+use Rattle.sheet.proofs.LineLaws.{stops, ends, node_after, more}
 use Rattle.sheet.proofs.lines.read_lines.Goals as goal
 
-pub loop-answer-init : goal.loop-answer-init
-loop-answer-init c = begins _ _ _ _ _ c.requires.fresh c.requires.nodes_value refl
+pub returns-in_err-node : goal.returns-in_err-node
+returns-in_err-node c =
+    let p = err_from_is_err_and c.from_residual.result c.from_residual.ensures.1 in
+    rw (p.1, p.2) (stops _ _ _ _ c.loop-node.invariant _ (sym c.in_err-node.ensures))
 
-pub line_at-step-requires : goal.line_at-step-requires
-line_at-step-requires c = reached _ _ _ _ c.loop-answer.invariant
-
-pub shape_of-nodes-in-Stop : goal.shape_of-nodes-in-Stop
-shape_of-nodes-in-Stop c =
-    c.clear.auto.table ∙ c.loop-answer.invariant.long
-
-pub returns-in-Stop : goal.returns-in-Stop
-returns-in-Stop c =
-    stops _ _ _ _ c.loop-answer.invariant _ _ (sym c.line_at-step.ensures ∙ c.in-Stop.is) c.clear.ensures
-
-pub shape_of-nodes-in-End : goal.shape_of-nodes-in-End
-shape_of-nodes-in-End c = c.loop-answer.invariant.long
-
-pub returns-in-End : goal.returns-in-End
-returns-in-End c =
-    ends _ _ _ _ c.loop-answer.invariant (sym c.line_at-step.ensures ∙ c.in-End.is)
-
-pub overflow_cast-k : goal.overflow_cast-k
-overflow_cast-k c =
-    let n = node_after _ _ _ _ c.loop-answer.invariant _ _ (sym c.line_at-step.ensures ∙ c.in-Node.is) in
+pub loop-node-smaller : goal.loop-node-smaller
+loop-node-smaller c =
+    let n = node_after _ _ _ _ c.loop-node.invariant _ (rw c.in-Some.is at (sym c.in_ok-node.ensures)) in
     omega arith
 
-pub loop-answer-smaller : goal.loop-answer-smaller
-loop-answer-smaller c =
-    let n = node_after _ _ _ _ c.loop-answer.invariant _ _ (sym c.line_at-step.ensures ∙ c.in-Node.is) in
-    omega arith
-
-pub loop-answer-preserved : goal.loop-answer-preserved
-loop-answer-preserved c =
+pub loop-node-preserved : goal.loop-node-preserved
+loop-node-preserved c =
     rw c.put_row.ensures
-    (more _ _ _ _ c.loop-answer.invariant _ _ (sym c.line_at-step.ensures ∙ c.in-Node.is) c.requires.nodes_most_in_bounds)
+    (more _ _ _ _ c.loop-node.invariant _ (rw c.in-Some.is at (sym c.in_ok-node.ensures)) c.requires.nodes_most_in_bounds)
+
+pub returns : goal.returns
+returns c = ends _ _ _ _ c.loop-node.invariant (rw c.in_default.is at (sym c.in_ok-node.ensures))
