@@ -12,7 +12,12 @@ use rules::sheet::Cursor;
 use rules::units::Width;
 
 // Reads the lines from the first on into a node table that is all zero, and gives how many nodes they are.
-pub(crate) fn read_lines(text: &[u8], width: Width, first: Cursor, nodes: &mut [u64]) -> Result<u64, Refusal>
+pub(crate) fn read_lines(
+    text: &[u8],
+    width: Width,
+    first: Cursor,
+    nodes: &mut [u64],
+) -> Result<u64, Refusal>
     requires fresh { Fresh first }
     requires nodes_most_in_bounds { row_entries * nodes_most ≤ length nodes.old }
     requires nodes_value { nodes.old ≡ padded (length nodes.old) [] }

@@ -152,9 +152,9 @@ module _ (xs ys : List ℕ) where
 
   same_later : (a b k : ℕ) → Same a b (suc k) → Same (a + 1) (b + 1) k
   same_later a b k s = λ i h.
-    let p : a + 1 + i ≡ a + (i + 1) = omega arith in
-    let q : b + 1 + i ≡ b + (i + 1) = omega arith in
-    rw (p, q) (s (i + 1) (omega arith))
+      let p : a + 1 + i ≡ a + (i + 1) = omega arith in
+      let q : b + 1 + i ≡ b + (i + 1) = omega arith in
+      rw (p, q) (s (i + 1) (omega arith))
 
   same_run : (a b k : ℕ) → Same a b k → digit_run xs a k ≡ digit_run ys b k
   unfolding digit_run

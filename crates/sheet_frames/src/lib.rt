@@ -19,7 +19,11 @@ use rules::sheet::Fields;
 const KIND: usize = 2;
 
 // A frame whose fields have so many digits, one field after the other.
-fn frame<const X: usize, const Y: usize, const Z: usize>(text: &[u8], at: u32, kind: FrameKind) -> Option<Fields>
+fn frame<const X: usize, const Y: usize, const Z: usize>(
+    text: &[u8],
+    at: u32,
+    kind: FrameKind,
+) -> Option<Fields>
     requires x_le_digits_most { X ≤ digits_most }
     requires y_le_digits_most { Y ≤ digits_most }
     requires z_le_digits_most { Z ≤ digits_most }

@@ -8,8 +8,8 @@ use Rattle.sheet.proofs.read.Goals.{then-head-lt-HEAD_ENTRIES-via-then-head-lt-H
 pub returns-then-head-lt-HEAD_ENTRIES : goal.returns-then-head-lt-HEAD_ENTRIES
 returns-then-head-lt-HEAD_ENTRIES c =
     elim c.then-head-lt-HEAD_ENTRIES.branch [
-      then-head-lt-HEAD_ENTRIES-via-then-head-lt-HEAD_ENTRIES w ↦ no_room _ _ _ (rw (lt-ltb _ 10 w.if-head-lt-HEAD_ENTRIES.true))
-    | then-head-lt-HEAD_ENTRIES-via-else-head-lt-HEAD_ENTRIES+then-nodes-lt-NODE_ENTRIES w ↦
+      | then-head-lt-HEAD_ENTRIES-via-then-head-lt-HEAD_ENTRIES w ↦ no_room _ _ _ (rw (lt-ltb _ 10 w.if-head-lt-HEAD_ENTRIES.true))
+      | then-head-lt-HEAD_ENTRIES-via-else-head-lt-HEAD_ENTRIES+then-nodes-lt-NODE_ENTRIES w ↦
           no_room _ _ _ (rw (lt-ltb _ 192 w.if-nodes-lt-NODE_ENTRIES.true, or-true))
     ]
 

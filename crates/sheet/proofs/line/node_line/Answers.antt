@@ -13,9 +13,9 @@ pub returns-then-here-taken : goal.returns-then-here-taken
 unfolding node_line
 returns-then-here-taken c =
     elim c.then-here-taken.branch [
-      then-here-taken-via-then-here-taken w ↦
+      | then-here-taken-via-then-here-taken w ↦
           rw (← c.row_ok.ensures, c.if-not-row_ok.false, ← c.takes-taken.ensures, lt-ltb _ _ w.if-here-taken.true)
-    | then-here-taken-via-else-here-taken+then-here-ge-NODES w ↦
+      | then-here-taken-via-else-here-taken+then-here-ge-NODES w ↦
           rw (← c.row_ok.ensures, c.if-not-row_ok.false, ← c.takes-taken.ensures, le-leb 64 _ w.if-here-ge-NODES.true, or-true)
     ]
 
