@@ -15,6 +15,8 @@ use Rattle.rules.specs.Tables.{Graph}
 use Rattle.rules.specs.Checks.{waits}
 use Rattle.rules.specs.declared.nodes.Node.{Node}
 use Rattle.rules.specs.declared.nodes.Node.TheVariants.{Load, Splat, Op, Shift}
+use Rattle.rules.specs.declared.sheet.Row.{Row}
+use Rattle.tables.specs.Rows.{row_at}
 use Rattle.theory.proofs.Lists.{split, get_or_past}
 use Rattle.theory.proofs.FormLaws.{Formed}
 use Rattle.graph.specs.Links.{inputs, standing, listed, left_of, lefts, LinkedAt, Linked}
@@ -109,7 +111,7 @@ module _ (node : ℕ → Node) where
 
 -- ---- the stack
 
-length_listed : (stack : List ℕ) (height : ℕ) → length (listed stack height) ≡ height
+pub length_listed : (stack : List ℕ) (height : ℕ) → length (listed stack height) ≡ height
 length_listed stack zero = refl
 length_listed stack (suc height) = ap suc (length_listed stack height)
 
@@ -124,16 +126,29 @@ listed_drop stack zero height = rw (sub-zero height)
 listed_drop stack (suc taken) zero = rw (zero-sub (suc taken))
 listed_drop stack (suc taken) (suc height) = rw (suc-sub-suc height taken) (listed_drop stack taken height)
 
-pub none_stand : (node : ℕ → Node) (stack : List ℕ) → listed stack 0 ≡ standing node 0
-unfolding standing
-none_stand node stack = refl
+-- the last but one of two or more
+pub second_listed : (stack : List ℕ) (height : ℕ) → 2 ≤ height → get_or stack (height - 2) 0 ≡ get_or (listed stack height) 1 0
+second_listed stack zero h = absurd (omega arith)
+second_listed stack (suc zero) h = absurd (omega arith)
+second_listed stack (suc (suc height)) h = ap (λ (i : ℕ). get_or stack i 0) (omega arith)
 
--- the stack after node k, which takes its inputs off and stands on it
-pub stack_next : (node : ℕ → Node) (k rest height : ℕ) (stack : List ℕ) → listed stack height ≡ standing node k → rest ≡ height - inputs (node k)
-    → rest < length stack → listed (set stack rest k) (rest + 1) ≡ standing node (k + 1)
+-- so many taken off, and a number put on
+pub listed_replace : (stack : List ℕ) (taken height number : ℕ) → height - taken < length stack
+    → listed (set stack (height - taken) number) (height - taken + 1) ≡ number ∷ drop taken (listed stack height)
+listed_replace stack taken height number h =
+    let rest = height - taken in
+    rw (add-one rest, get_or-set_same stack rest number 0 h, listed_set stack rest number rest (omega arith), ← (listed_drop stack taken height))
+
+-- as many stand before node k as there are nodes before it, or fewer
+length_standing_le : (node : ℕ → Node) (k : ℕ) → length (standing node k) ≤ k
 unfolding standing
-stack_next node k rest height stack e r h =
-    rw (add-one rest, add-one k, get_or-set_same stack rest k 0 h, listed_set stack rest k rest (omega arith), r, ← (listed_drop stack (inputs (node k)) height), e)
+length_standing_le node zero = omega arith
+length_standing_le node (suc k) = omega (arith, length_standing_le node k, length-drop (inputs (node k)) (standing node k))
+
+-- so that there is a place for node k, however many are taken off
+pub room_for : (node : ℕ → Node) (k taken : ℕ) (before : List ℕ) → before ≡ standing node k → k < nodes_most
+    → length (drop taken before) < nodes_most
+room_for node k taken before e h = rw e (omega (arith, length-drop taken (standing node k), length_standing_le node k))
 
 -- and the table of left inputs with node k's
 pub record LeftsSo (node : ℕ → Node) (k : ℕ) (left : List ℕ) : Type 0 where
@@ -178,6 +193,13 @@ node_takes (suc (suc zero)) x y = refl
 node_takes (suc (suc (suc zero))) x y = refl
 node_takes (suc (suc (suc (suc zero)))) x y = refl
 node_takes (suc (suc (suc (suc (suc k))))) x y = refl
+
+-- node k, by its row, takes its inputs off and stands on what is left
+pub standing_next : (nodes : List ℕ) (k taken : ℕ) (before : List ℕ) (row : Row) → before ≡ standing (node_at nodes) k
+    → row ≡ row_at nodes k → taken ≡ takes row.kind → k ∷ drop taken before ≡ standing (node_at nodes) (k + 1)
+unfolding standing node_at
+standing_next nodes k taken before row b r t =
+    rw (add-one k, b, t, r, node_takes (cell nodes k 0) (cell nodes k 1) (cell nodes k 2))
 
 pub length_standing : (nodes : List ℕ) (k : ℕ) → length (standing (node_at nodes) k) ≡ waits nodes k
 unfolding standing waits node_at

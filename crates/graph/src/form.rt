@@ -12,17 +12,15 @@ use rules::answers::Refusal;
 use rules::limits::{FIRST_NODE_LINE, HEADER_LINE, NODES};
 
 // The rows in their order, on each RANGE before SHAPE: how many nodes wait after them.
+#[tactic(auto, using(crate::proofs::RowChecks::row_range, crate::proofs::RowChecks::row_shape))]
 fn judge_rows(head: Header, nodes: &[u64]) -> Result<u64, Refusal>
     ensures { RowsFound (graph_in head nodes.now) result }
 {
-    let width = head.width;
-    let count = head.count;
-    let mut waiting: u64 = 0;
-    let mut k: u8 = 0;
-    while k < count {
+    let mut waiting = 0;
+    for k in 0..head.count {
         let line = (k as u64) + FIRST_NODE_LINE;
         let row = tables::row_at(nodes, k);
-        if !ranges::row_ok(width, row.kind, row.x, row.y) {
+        if !ranges::row_ok(head.width, row.kind, row.x, row.y) {
             return Err(Refusal::Range(line));
         }
         let taken = ranges::takes(row.kind);
@@ -30,24 +28,22 @@ fn judge_rows(head: Header, nodes: &[u64]) -> Result<u64, Refusal>
             return Err(Refusal::Shape(line));
         }
         waiting = waiting - taken + 1;
-        k = k + 1;
     }
     Ok(waiting)
 }
 
 // "a 65th node, not one waiting at the end"
+#[tactic(auto, using(std::proofs::lemmas::Bool::Decides::nat_tests))]
 fn judge_end(count: u64, waiting: u64) -> Result<(), Refusal>
     ensures { of_result result ≡ end_found count waiting }
 {
-    if NODES < count {
-        return Err(Refusal::Shape(NODES + FIRST_NODE_LINE));
-    }
-    if waiting != 1 {
-        return Err(Refusal::Shape(count + FIRST_NODE_LINE));
+    if NODES < count || waiting != 1 {
+        return Err(Refusal::Shape(count.min(NODES) + FIRST_NODE_LINE));
     }
     Ok(())
 }
 
+#[tactic(auto, using(crate::proofs::HeaderLaws::head_refused, crate::proofs::HeaderLaws::rows_refused, crate::proofs::HeaderLaws::rows_waiting))]
 pub(crate) fn form(head: &[u64], nodes: &[u64]) -> Result<(), Refusal>
     ensures { of_result result ≡ form_check vector_bytes (graph_of head.now nodes.now) }
 {

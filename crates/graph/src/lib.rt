@@ -17,13 +17,11 @@ use rules::answers::Refusal;
 use rules::limits::{HEAD_ENTRIES, NODE_ENTRIES};
 
 // ROOM, then RANGE and SHAPE by line.
+#[tactic(auto, using(std::proofs::lemmas::Bool::Decides::nat_tests), unfolding(rules::specs::Calls::checking, rules::specs::Answers::first))]
 pub fn check(head: &[u64], nodes: &[u64]) -> Result<(), Refusal>
     ensures { of_result result ≡ checking vector_bytes head.now nodes.now }
 {
-    if head.len() < HEAD_ENTRIES {
-        return Err(Refusal::Room);
-    }
-    if nodes.len() < NODE_ENTRIES {
+    if head.len() < HEAD_ENTRIES || nodes.len() < NODE_ENTRIES {
         return Err(Refusal::Room);
     }
     form::form(head, nodes)
