@@ -1,26 +1,12 @@
 -- "address + nD beyond" an end, by the elements that have room before it: the sum is never formed.
-use Prim.Native.Nat.{ℕ, zero, suc, ◌+◌, ◌-◌, ◌*◌, ◌/◌, ◌≤◌, ◌<◌}
-use mathlib.Core.Path.{◌≡◌, refl, sym, ◌∙◌}
-use mathlib.Core.Bool.{true}
+use Prim.Native.Nat.{ℕ, ◌+◌, ◌-◌, ◌*◌, ◌/◌, ◌≤◌, ◌<◌}
+use mathlib.Core.Path.{◌≡◌, sym, ◌∙◌}
 use native.Mathlib.Nat.{div-lt_iff_lt-mul}
 use native.Mathlib.Omega.{arith}
 use borrow.Author.Tests.{lt-ltb, le-ltb}
 use lib.Dec.{ltb}
-use Rattle.rules.specs.Units.{width_bytes}
-use Rattle.rules.specs.Checks.{beyond, length_of}
-use Rattle.rules.specs.declared.units.Width.{Width}
-use Rattle.rules.specs.declared.units.Width.TheVariants.{One, Two, Four, Eight}
+use Rattle.rules.specs.Checks.{beyond}
 use Rattle.theory.proofs.Lists.{split}
-
-pub width_positive : (width : Width) → 0 < width_bytes width
-width_positive One = omega arith
-width_positive Two = omega arith
-width_positive Four = omega arith
-width_positive Eight = omega arith
-
--- an end before the address
-pub end_first : (D n address end : ℕ) → end < address → true ≡ beyond D n address end
-end_first D n address end h = sym (lt-ltb end (address + n * D) (omega arith))
 
 -- so many elements have room, and n are wanted
 pub few_have_room : (D n address end : ℕ) → 0 < D → address ≤ end → ltb ((end - address) / D) n ≡ beyond D n address end
@@ -35,7 +21,3 @@ few_have_room D n address end pos h = split ((end - address) / D) n
     fits l = split (end - address) (n * D)
         (λ (m : end - address < n * D). let q : (end - address) / D < n = (div-lt_iff_lt-mul pos).1 m in absurd (omega arith))
         (λ m. omega arith)
-
-pub table_length : (window work_len table_len : ℕ) → (window ≡ 0 → ⊥) → length_of window work_len table_len ≡ table_len
-table_length zero work_len table_len h = absurd (h refl)
-table_length (suc w) work_len table_len h = refl

@@ -6,6 +6,7 @@ use rules::answers::Refusal;
 use rules::limits::{V, WINDOW_MOST, WORK};
 
 mod addresses;
+mod lines;
 mod rows;
 
 ghost use Rattle.std.specs.Prelude.{◌≡◌};
@@ -21,13 +22,11 @@ const TABLE: u64 = 1;
 fn window_ok(len: u64) -> bool
     ensures { result ≡ window_ok vector_bytes len }
 {
-    if WINDOW_MOST < len {
-        return false;
-    }
-    len % V == 0
+    len <= WINDOW_MOST && len % V == 0
 }
 
 // 6 WINDOW, of the windows' lengths.
+#[tactic(auto, unfolding(rules::specs::Checks::window_check, rules::specs::Answers::first))]
 pub fn windows(work_len: u64, table_len: u64) -> Result<(), Refusal>
     ensures { of_result result ≡ window_check vector_bytes work_len table_len }
 {

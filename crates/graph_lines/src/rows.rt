@@ -6,9 +6,10 @@ ghost use Rattle.rules.specs.Answers.{of_result};
 ghost use Rattle.rules.specs.Checks.{bare_check};
 ghost use Rattle.graph.specs.Headers.{graph_in};
 
+use crate::lines::first_at_fault;
 use graph::Header;
 use rules::answers::Refusal;
-use rules::limits::{FIRST_NODE_LINE, SHIFT_KIND};
+use rules::limits::SHIFT_KIND;
 use rules::sheet::Row;
 
 const BARE_MOST: u8 = 31;
@@ -17,23 +18,14 @@ const BARE_MOST: u8 = 31;
 fn row_not_bare(row: Row, k: u8) -> bool
     ensures { result ≡ (eqb row.kind shift_kind || leb bare_most k) }
 {
-    if row.kind == SHIFT_KIND {
-        return true;
-    }
-    BARE_MOST <= k
+    row.kind == SHIFT_KIND || BARE_MOST <= k
 }
 
 pub fn bare(head: Header, nodes: &[u64]) -> Result<(), Refusal>
     ensures { of_result result ≡ bare_check (graph_in head nodes.now) }
 {
-    let count = head.count;
-    let mut k: u8 = 0;
-    while k < count {
-        let row = tables::row_at(nodes, k);
-        if row_not_bare(row, k) {
-            return Err(Refusal::Bare((k as u64) + FIRST_NODE_LINE));
-        }
-        k = k + 1;
+    match first_at_fault(head, nodes, row_not_bare) {
+        Some(line) => Err(Refusal::Bare(line)),
+        None => Ok(()),
     }
-    Ok(())
 }

@@ -1,46 +1,16 @@
-use mathlib.Core.Path.{sym, ap, ◌∙◌}
-use mathlib.Core.Bool.{not}
-use native.Mathlib.Omega.{arith}
+use Rattle.std.proofs.Common.{rules, sym, ap, not, ◌∙◌}
 use Rattle.rules.specs.Checks.{align_check}
-use Rattle.theory.proofs.Firsts.{passed_none}
-use Rattle.graph_lines.proofs.LineLaws.{store_refuses, store_passes, row_passes, row_refuses, rows_pass}
-use Rattle.graph_lines.proofs.addresses.align.Invariants.{wrong}
+use Rattle.graph_lines.proofs.LineLaws.{store_passes, row_refuses, rows_pass}
 use Rattle.graph_lines.proofs.addresses.align.Goals as goal
 
-pub returns-then-not-is_multiple : goal.returns-then-not-is_multiple
+pub returns-in-Some : goal.returns-in-Some
 unfolding align_check
-returns-then-not-is_multiple c =
-    let a = c.args in
-    store_refuses 6 1 _ _ (ap not (sym c.is_multiple.ensures ∙ c.if-not-is_multiple.true))
-
-pub loop-k-init : goal.loop-k-init
-loop-k-init c = (omega arith, passed_none _)
-
-pub returns-then-row_misaligned : goal.returns-then-row_misaligned
-unfolding align_check
-returns-then-row_misaligned c =
-    let l = c.loop-k in
-    let a = c.args in
-    let row = c.row_at-row in
-    let found = c.row_misaligned in
-    row_refuses 6 (wrong a.head.width) a.nodes.now l.k l.invariant.1 _ row.ensures _ found.ensures a.head.count
-    c.loop-k-test.true c.if-row_misaligned.true
+returns-in-Some c =
+    row_refuses 6 _ (λ k said h. search rules) _ _ c.in-Some.ensures
     ∙ store_passes 6 1 _ _ (ap not (sym c.is_multiple.ensures ∙ c.if-not-is_multiple.false))
 
-pub loop-k-preserved : goal.loop-k-preserved
-loop-k-preserved c =
-    let l = c.loop-k in
-    let a = c.args in
-    let row = c.row_at-row in
-    let found = c.row_misaligned in (
-      omega arith,
-      row_passes 6 (wrong a.head.width) a.nodes.now l.k l.invariant.1 _ row.ensures _ found.ensures c.if-row_misaligned.false,
-    )
-
-pub returns : goal.returns
+pub returns-in-None : goal.returns-in-None
 unfolding align_check
-returns c =
-    let l = c.loop-k in
-    let a = c.args in
-    rows_pass 6 (wrong a.head.width) a.nodes.now a.head.count l.k l.invariant.1 (omega arith)
+returns-in-None c =
+    rows_pass 6 _ (λ k said h. search rules) _ c.in-None.ensures
     ∙ store_passes 6 1 _ _ (ap not (sym c.is_multiple.ensures ∙ c.if-not-is_multiple.false))
