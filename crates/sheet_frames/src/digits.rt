@@ -11,14 +11,16 @@ const TEN: u64 = 10;
 fn digit(b: u8) -> Option<u64>
     ensures { result ≡ digit_at b }
 {
-    match b {
-        b'0'..=b'9' => Some((b - b'0') as u64),
-        b'A'..=b'F' => Some((b - b'A') as u64 + TEN),
-        _ => None,
+    if b.is_ascii_digit() {
+        return Some((b - b'0') as u64);
     }
+    if b'A' <= b && b <= b'F' {
+        return Some((b - b'A') as u64 + TEN);
+    }
+    None
 }
 
-// The number that all of some bytes spell.
+// The number that all of some bytes spell. Where it stands in line, their number is known to the compiler, and no loop is left.
 #[inline(always)]
 pub(crate) fn number(digits: &[u8]) -> Option<u64>
     requires { length digits.now ≤ digits_most }

@@ -19,6 +19,7 @@ use rules::sheet::Fields;
 const KIND: usize = 2;
 
 // A frame whose fields have so many digits, one field after the other.
+#[inline(always)]
 fn frame<const X: usize, const Y: usize, const Z: usize>(
     text: &[u8],
     at: u32,
@@ -57,6 +58,7 @@ fn kind_at(text: &[u8], place: u32) -> Option<FrameKind>
 }
 
 // The table of frames: each kind's fields by how many digits they have.
+#[inline(always)]
 #[tactic(auto, using(crate::proofs::FrameLaws::no_kind, crate::proofs::FrameLaws::kind_digits))]
 fn frame_at(text: &[u8], place: u32) -> Option<Fields>
     ensures { result ≡ frame_at text.now place }
