@@ -5,15 +5,32 @@ use mathlib.Core.Bool.{Bool, ◌||◌}
 use mathlib.Core.List.{List, []}
 use borrow.Author.Tests.{ltb-false}
 use lib.ListN.{length}
+use Rattle.std.specs.Prelude.{Ok, Err}
 use Rattle.rules.specs.Limits.{vector_bytes, nodes_most, head_entries, row_entries}
-use Rattle.rules.specs.Answers.{Answer, DONE, ROOM, at, done, of_place}
-use Rattle.rules.specs.Tables.{Graph, graph_of, head_of, padded}
+use Rattle.rules.specs.Answers.{Answer, DONE, ROOM, at, done, of_refusal}
+use Rattle.rules.specs.Tables.{Graph, graph_of, head_of, padded, table_left}
 use Rattle.rules.specs.Checks.{head_short, nodes_short}
 use Rattle.rules.specs.Calls.{place_answer, placed_graph, placing}
-use Rattle.rules.specs.declared.answers.PlaceAnswer.{PlaceAnswer}
-use Rattle.rules.specs.declared.answers.PlaceAnswer.TheVariants as Place
+use Rattle.rules.specs.declared.answers.Refusal.{Refusal}
+use Rattle.rules.specs.declared.answers.Refusal.TheVariants.{Room, Line, Range, Shape, Bare, Window, Align, Bounds, Carry, Offset, Long, Out, Fault}
 use Rattle.theory.proofs.FormLaws.{passes_formed, each_check_done, refuse_done, neither}
 use Rattle.placing.specs.Handing.{BareSheet, sheet_given}
+
+-- every refusal but ROOM leaves a table all zero
+cleared : (r : Refusal) → (r ≡ Room → ⊥) → (before made : List ℕ) → table_left (of_refusal r).number before made ≡ padded (length before) []
+cleared Room other before made = absurd (other refl)
+cleared (Line k) other before made = refl
+cleared (Range k) other before made = refl
+cleared (Shape k) other before made = refl
+cleared (Bare k) other before made = refl
+cleared (Window k) other before made = refl
+cleared (Align k) other before made = refl
+cleared (Bounds k) other before made = refl
+cleared (Carry k) other before made = refl
+cleared (Offset k) other before made = refl
+cleared Long other before made = refl
+cleared (Out k) other before made = refl
+cleared (Fault k) other before made = refl
 
 module _ (rule : ℕ) (head nodes placed_head placed_nodes : List ℕ) where
   abbrev found : Answer
@@ -41,23 +58,17 @@ module _ (rule : ℕ) (head nodes placed_head placed_nodes : List ℕ) where
   abbrev made : Graph
   made = placed_graph vector_bytes rule (graph_of head nodes)
 
-  pub room_leaves : at ROOM 0 ≡ found → sheet_given Place.Room placed_head placed_nodes ≡ placing vector_bytes rule head nodes placed_head placed_nodes
+  pub room_leaves : at ROOM 0 ≡ found → sheet_given (Err Room) placed_head placed_nodes ≡ placing vector_bytes rule head nodes placed_head placed_nodes
   unfolding placing
   room_leaves e = rw (← e)
 
   pub done_leaves : (h n : List ℕ) → done ≡ found → h ≡ padded (length placed_head) (head_of made) → n ≡ padded (length placed_nodes) made.nodes
-      → sheet_given Place.Done h n ≡ placing vector_bytes rule head nodes placed_head placed_nodes
+      → sheet_given (Ok tt) h n ≡ placing vector_bytes rule head nodes placed_head placed_nodes
   unfolding placing
   done_leaves h n e p q = rw (← e, p, q)
 
   -- a refusal that is not ROOM
-  pub refusal_leaves : (r : PlaceAnswer) (h n : List ℕ) → (r ≡ Place.Room → ⊥) → (r ≡ Place.Done → ⊥) → of_place r ≡ found
-      → h ≡ padded (length placed_head) [] → n ≡ padded (length placed_nodes) []
-      → sheet_given r h n ≡ placing vector_bytes rule head nodes placed_head placed_nodes
+  pub refusal_leaves : (r : Refusal) (h n : List ℕ) → (r ≡ Room → ⊥) → of_refusal r ≡ found → h ≡ padded (length placed_head) []
+      → n ≡ padded (length placed_nodes) [] → sheet_given (Err r) h n ≡ placing vector_bytes rule head nodes placed_head placed_nodes
   unfolding placing
-  refusal_leaves Place.Done h n room done e p q = absurd (done refl)
-  refusal_leaves Place.Room h n room done e p q = absurd (room refl)
-  refusal_leaves (Place.Range k) h n room done e p q = rw (← e, p, q)
-  refusal_leaves (Place.Shape k) h n room done e p q = rw (← e, p, q)
-  refusal_leaves (Place.Bare k) h n room done e p q = rw (← e, p, q)
-  refusal_leaves (Place.Align k) h n room done e p q = rw (← e, p, q)
+  refusal_leaves r h n other e p q = rw (← e, p, q, cleared r other placed_head (head_of made), cleared r other placed_nodes made.nodes)

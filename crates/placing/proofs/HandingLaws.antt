@@ -5,8 +5,9 @@ use mathlib.Core.Path.{◌≡◌, refl, sym, ap, ◌∙◌}
 use mathlib.Core.List.{List, [], ◌∷◌}
 use native.Mathlib.Nat.{sub-zero}
 use native.Mathlib.Omega.{arith}
-use lib.ListN.{length, set, drop, replicate, length-replicate}
+use lib.ListN.{length, set, replicate, length-replicate}
 use lib.Seq.{sets, sets-eq}
+use Rattle.std.proofs.lemmas.List.{drop-replicate}
 use Rattle.rules.specs.Limits.{vector_bytes, nodes_most}
 use Rattle.rules.specs.Frames.{shift_kind}
 use Rattle.rules.specs.Trees.{Tree, cell, node_of, node_at, tree_at, rows, count}
@@ -15,7 +16,6 @@ use Rattle.rules.specs.Placing.{dominant, place}
 use Rattle.rules.specs.Tables.{Graph, padded}
 use Rattle.rules.specs.Calls.{graph_tree}
 use Rattle.rules.specs.declared.nodes.Node.{Node}
-use Rattle.rules.specs.declared.nodes.NodeRecord.{NodeRecord}
 use Rattle.theory.proofs.RowLaws.{length_rows}
 use Rattle.theory.proofs.Checked.{sixteen, bare_done, bare_count, graph_unshifted}
 use Rattle.theory.proofs.PlacedSize.{place_count}
@@ -23,13 +23,14 @@ use Rattle.theory.proofs.Placed.{Unshifted}
 use Rattle.graph.specs.Links.{left_in, lefts, Linked}
 use Rattle.graph.proofs.LinkLaws.{lefts_linked}
 use Rattle.graph.proofs.InputLaws.{some_node, root_tree}
-use Rattle.placing_targets.specs.declared.Moves.{Moves}
 use Rattle.placing_targets.specs.Met.{dominant_in}
 use Rattle.placing_targets.specs.Rules.{at, moves_of}
 use Rattle.placing.specs.Moves.{goes, moved}
 use Rattle.placing.specs.Writing.{Wrote}
 use Rattle.placing.specs.Records.{node_in, moved_rows, Recorded, NoShift, Ready}
 use Rattle.placing.specs.Handing.{BareSheet}
+use Rattle.placing.specs.declared.records.MovedNodes.{MovedNodes}
+use Rattle.placing.specs.declared.rows.Writer.{Writer}
 use Rattle.placing.proofs.MoveLaws.{place_moved}
 use Rattle.placing.proofs.DominantLaws.{dominant_met}
 use Rattle.placing.proofs.RecordLaws.{same_tree, recorded_ready}
@@ -65,30 +66,25 @@ module _ (g : Graph) (b : BareSheet g) where
     placed_room =
         omega (arith, length_rows made, place_count vector_bytes g.S rule (graph_tree g) unshifted (bare_count vector_bytes g b.formed b.bare))
 
-    module _ (m : Moves) (recs : List NodeRecord) (is : Recorded vector_bytes m g.nodes g.N recs) where
-      pub sheet_ready : (left : List ℕ) → left ≡ lefts node nodes_most → Ready vector_bytes m recs left g.N
+    module _ (sheet : MovedNodes) (is : Recorded vector_bytes sheet g.nodes g.N) where
+      pub sheet_ready : sheet.lefts ≡ lefts node nodes_most → Ready vector_bytes sheet g.N
       unfolding node_at
-      sheet_ready left e =
-          recorded_ready vector_bytes m g.nodes recs left g.N is (sheet_linked left e)
+      sheet_ready e =
+          recorded_ready vector_bytes sheet g.nodes g.N is b.formed.most (sheet_linked sheet.lefts e)
           (λ k h. kind_no_shift (cell g.nodes k 0) (cell g.nodes k 1) (cell g.nodes k 2) ((bare_done g b.bare).0 k h))
 
-      pub last_rows : m ≡ moves_of vector_bytes g.S rule (dominant_in vector_bytes g.S node g.N)
-          → moved_rows vector_bytes m recs (g.N - 1) (at (store_offset vector_bytes g.S)) ≡ rows made
+      pub last_rows : sheet.moves ≡ moves_of vector_bytes g.S rule (dominant_in vector_bytes g.S node g.N)
+          → moved_rows vector_bytes sheet (g.N - 1) (at (store_offset vector_bytes g.S)) ≡ rows made
       last_rows e =
           let c = store_offset vector_bytes g.S in
-          let by-tree : m ≡ moves_of vector_bytes g.S rule (dominant vector_bytes g.S (graph_tree g)) = rw (dominant_met g b.formed) at e in
-          let t : tree_at (node_in recs) (g.N - 1) ≡ graph_tree g =
-          same_tree vector_bytes m g.nodes recs [] g.N is (g.N - 1) (omega (arith, has_last))
+          let by-tree : sheet.moves ≡ moves_of vector_bytes g.S rule (dominant vector_bytes g.S (graph_tree g)) = rw (dominant_met g b.formed) at e in
+          let t : tree_at (node_in sheet.records) (g.N - 1) ≡ graph_tree g =
+          same_tree vector_bytes sheet g.nodes g.N is (g.N - 1) (omega (arith, has_last))
           ∙ root_tree g.nodes g.N has_last in
-          ap (λ (x : Tree). rows (goes vector_bytes (at c) (moved vector_bytes m x))) t
+          ap (λ (x : Tree). rows (goes vector_bytes (at c) (moved vector_bytes sheet.moves x))) t
           ∙ rw by-tree (ap rows (sym (place_moved vector_bytes g.S rule (graph_tree g) unshifted)))
 
 -- ---- a table that was cleared
-
-drop_zeros : (n len : ℕ) → drop n (replicate {A = ℕ} len 0) ≡ replicate (len - n) 0
-drop_zeros zero len = rw sub-zero
-drop_zeros (suc n) zero = let e : 0 - suc n ≡ 0 = omega arith in rw e
-drop_zeros (suc n) (suc len) = let e : suc len - suc n ≡ len - n = omega arith in rw e (drop_zeros n len)
 
 cleared_sets : (len : ℕ) (made : List ℕ) → length made ≤ len → sets (padded len []) 0 made ≡ padded len made
 unfolding padded
@@ -96,13 +92,13 @@ cleared_sets len made h =
     let z : 0 + length made ≡ length made = omega arith in
     rw sub-zero
     (sets-eq made (replicate len 0) 0 (omega (arith, length-replicate {A = ℕ} len 0))
-    ∙ rw (z, drop_zeros (length made) len))
+    ∙ rw (z, drop-replicate {X = ℕ} (length made) len 0))
 
 -- the rows of a tree, from the first row on
-pub rows_handed : (len : ℕ) (t : Tree) (before after : List ℕ) (next : ℕ) → before ≡ padded len [] → length (rows t) ≤ len
-    → Wrote before 0 (rows t) after next → (next ≡ count t) × (after ≡ padded len (rows t))
-rows_handed len t before after next e h w =
-    (omega (arith, w.free, length_rows t), w.table ∙ rw e (cleared_sets len (rows t) h))
+pub rows_handed : (len : ℕ) (t : Tree) (before after : Writer) → before.row ≡ 0 → before.table.now ≡ padded len [] → length (rows t) ≤ len
+    → Wrote before (rows t) after → (after.row ≡ count t) × (after.table.now ≡ padded len (rows t))
+rows_handed len t before after first e h w =
+    (omega (arith, w.free, length_rows t), w.entries ∙ rw (first, e) (cleared_sets len (rows t) h))
 
 -- four entries of a head
 pub head_handed : (len d n s N : ℕ) → 10 ≤ len

@@ -1,11 +1,11 @@
 -- What placing stands on, and what of a graph is handed back.
-use Rattle.std.specs.Prelude.{ℕ, ◌≡◌, List, [], ◌∷◌, length, get_or}
+use Rattle.std.specs.Prelude.{ℕ, ◌≡◌, List, [], ◌∷◌, length, get_or, Result, ⊤}
 use Rattle.rules.specs.Limits.{vector_bytes}
-use Rattle.rules.specs.Answers.{DONE, of_place}
+use Rattle.rules.specs.Answers.{DONE, of_result}
 use Rattle.rules.specs.Tables.{Graph, padded}
 use Rattle.rules.specs.Checks.{bare_check}
 use Rattle.rules.specs.Calls.{WithSheet, placed_graph}
-use Rattle.rules.specs.declared.answers.PlaceAnswer.{PlaceAnswer}
+use Rattle.rules.specs.declared.answers.Refusal.{Refusal}
 use Rattle.theory.proofs.FormLaws.{Formed}
 
 -- a graph that passes as if read, and is bare
@@ -23,5 +23,5 @@ pub record RowsPlaced (rule : ℕ) (g : Graph) (before after : List ℕ) (rows :
   pub table : after ≡ padded (length before) (placed_graph vector_bytes rule g).nodes
 
 -- everything that placing gives and leaves
-abbrev pub sheet_given : PlaceAnswer → (head nodes : List ℕ) → WithSheet
-sheet_given r head nodes = record { answer = of_place r; head = head; nodes = nodes }
+abbrev pub sheet_given : Result ⊤ Refusal → (head nodes : List ℕ) → WithSheet
+sheet_given r head nodes = record { answer = of_result r; head = head; nodes = nodes }

@@ -1,10 +1,12 @@
 -- Rows written one after the other into a node table.
-use Rattle.std.specs.Prelude.{ℕ, ◌+◌, ◌*◌, ◌≡◌, cond, List, [], ◌∷◌, eqb, length}
+use Rattle.std.specs.Prelude.{ℕ, ◌+◌, ◌*◌, ◌≤◌, ◌≡◌, cond, List, [], ◌∷◌, eqb, length}
 use Rattle.std.proofs.lemmas.List.Edits.{sets}
-use Rattle.rules.specs.Limits.{row_entries}
+use Rattle.rules.specs.Limits.{nodes_most, row_entries}
 use Rattle.rules.specs.Frames.{shift_kind}
 use Rattle.rules.specs.declared.nodes.Offset.{Offset}
 use Rattle.rules.specs.declared.nodes.Offset.TheVariants.{At, Undefined}
+use Rattle.rules.specs.declared.sheet.Row.{Row}
+use Rattle.placing.specs.declared.rows.Writer.{Writer}
 
 -- the row of a shift, where both offsets are defined and differ
 abbrev pub shift_row : (here to : Offset) → List ℕ
@@ -12,7 +14,16 @@ shift_row Undefined to = []
 shift_row (At a) Undefined = []
 shift_row (At a) (At g) = cond (eqb a.0 g.0) [] (shift_kind ∷ a.0 ∷ g.0 ∷ [])
 
--- these entries were written from a row on, and the next row is free
-pub record Wrote (before : List ℕ) (row : ℕ) (made after : List ℕ) (next : ℕ) : Type 0 where
-  pub free : row_entries * next ≡ row_entries * row + length made
-  pub table : after ≡ sets before (row_entries * row) made
+-- a row's entries
+abbrev pub row_of : Row → List ℕ
+row_of row = row.kind ∷ row.x ∷ row.y ∷ []
+
+-- so many entries fit into a table of 64 rows from the next row on
+abbrev pub HasRoom : Writer → (made : List ℕ) → Type 0
+HasRoom rows made = row_entries * rows.row + length made ≤ row_entries * nodes_most
+
+-- these entries were written from the next row on
+pub record Wrote (before : Writer) (made : List ℕ) (after : Writer) : Type 0 where
+  pub same_table : after.table.ghost_name ≡ before.table.ghost_name
+  pub free : row_entries * after.row ≡ row_entries * before.row + length made
+  pub entries : after.table.now ≡ sets before.table.now (row_entries * before.row) made

@@ -10,7 +10,7 @@ ghost use Rattle.rules.specs.Limits.{vector_bytes};
 ghost use Rattle.rules.specs.Calls.{placing};
 ghost use Rattle.placing.specs.Handing.{sheet_given};
 
-use rules::answers::PlaceAnswer;
+use rules::answers::Refusal;
 
 // Places a bare sheet by a rule. ROOM leaves the lent tables as they are, every other refusal leaves them all zero.
 pub fn place(
@@ -19,20 +19,20 @@ pub fn place(
     nodes: &[u64],
     placed_head: &mut [u64],
     placed_nodes: &mut [u64],
-) -> PlaceAnswer
+) -> Result<(), Refusal>
     ensures { sheet_given result placed_head.new placed_nodes.new ≡ placing vector_bytes rule head.now nodes.now placed_head.old placed_nodes.old }
 {
-    let answer = refusals_placing::judge(rule, head, nodes, placed_head, placed_nodes);
-    match answer {
-        PlaceAnswer::Room => PlaceAnswer::Room,
-        PlaceAnswer::Done => {
+    match refusals_placing::judge(rule, head, nodes, placed_head, placed_nodes) {
+        Ok(rule) => {
             placed::hand_back(rule, head, nodes, placed_head, placed_nodes);
-            PlaceAnswer::Done
+            Ok(())
         }
-        _ => {
-            tables::clear(placed_head);
-            tables::clear(placed_nodes);
-            answer
+        Err(refusal) => {
+            if !matches!(refusal, Refusal::Room) {
+                tables::clear(placed_head);
+                tables::clear(placed_nodes);
+            }
+            Err(refusal)
         }
     }
 }

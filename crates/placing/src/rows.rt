@@ -1,92 +1,110 @@
 // The rows of the placed tree, written in postfix order by recursion on node numbers: a node's inputs come before it.
-ghost use Rattle.std.specs.Prelude.{◌∷◌, ◌+◌, ◌*◌, ◌≤◌, ◌<◌, length};
-ghost use Rattle.rules.specs.Limits.{vector_bytes, nodes_most, row_entries};
-ghost use Rattle.placing.specs.Writing.{shift_row, Wrote};
+ghost use Rattle.std.specs.Prelude.{◌≡◌, ◌+◌, ◌++◌};
+ghost use Rattle.rules.specs.Limits.{vector_bytes};
+ghost use Rattle.placing.specs.Writing.{row_of, shift_row, HasRoom, Wrote};
 ghost use Rattle.placing.specs.Records.{Ready, moved_rows};
 
-use crate::records::inputs_meet;
-use placing_targets::Moves;
-use rules::limits::{LOAD_KIND, OP_KIND, SHIFT_KIND, SPLAT_KIND, V};
+use crate::records::{MovedNodes, meeting_at};
+use rules::kinds::FrameKind;
+use rules::limits::V;
 use rules::nodes::{Node, NodeRecord, Offset};
 use rules::sheet::Row;
 use rules::units::ByteOffset;
 
-// A shift's row, where both offsets are defined and differ; the next row.
-fn put_shift(table: &mut [u64], row: u8, here: Offset, to: Offset) -> u8
-    requires { row_entries * row + length (shift_row here to) ≤ row_entries * nodes_most }
-    ensures { Wrote table.old row (shift_row here to) table.new result }
-{
-    match here {
-        Offset::Undefined => row,
-        Offset::At(a) => match to {
-            Offset::Undefined => row,
-            Offset::At(g) => {
-                if a.0 == g.0 {
-                    return row;
-                }
-                tables::put_row(
-                    table,
-                    row,
-                    Row {
-                        kind: SHIFT_KIND,
-                        x: a.0,
-                        y: g.0,
-                    },
-                );
-                row + 1
-            }
-        },
+// A node table, and the row that is written next.
+#[derive(Drop)]
+pub(crate) struct Writer<'a> {
+    pub(crate) table: &'a mut [u64],
+    pub(crate) row: u8,
+}
+
+impl<'a> Writer<'a> {
+    pub(crate) fn new(table: &'a mut [u64]) -> Writer<'a>
+        ensures same_table { result.table.ghost_name ≡ table.entry.ghost_name }
+        ensures entries { result.table.now ≡ table.old }
+        ensures first_row { result.row ≡ 0 }
+    {
+        Writer { table, row: 0 }
+    }
+
+    fn put(&mut self, row: Row)
+        requires { HasRoom self.old (row_of row) }
+        ensures { Wrote self.old (row_of row) self.new }
+    {
+        tables::put_row(self.table, self.row, row);
+        self.row += 1;
+    }
+
+    // A shift's row, where both offsets are defined and differ.
+    fn shift(&mut self, here: Offset, to: Offset)
+        requires { HasRoom self.old (shift_row here to) }
+        ensures { Wrote self.old (shift_row here to) self.new }
+    {
+        let (Offset::At(a), Offset::At(g)) = (here, to) else {
+            return;
+        };
+        if a != g {
+            self.put(Row {
+                kind: FrameKind::Shift.number(),
+                x: a.0,
+                y: g.0,
+            });
+        }
+    }
+
+    // A node's row, and then a shift if it has to go elsewhere.
+    fn node(&mut self, node: Row, here: Offset, to: Offset)
+        requires { HasRoom self.old (row_of node ++ shift_row here to) }
+        ensures { Wrote self.old (row_of node ++ shift_row here to) self.new }
+    {
+        self.put(node);
+        self.shift(here, to);
     }
 }
 
-// A node's row, and then a shift if it has to go elsewhere; the next row.
-fn put_node(table: &mut [u64], row: u8, kind: u64, x: u64, y: u64, here: Offset, to: Offset) -> u8
-    requires { row_entries * row + length (kind ∷ x ∷ y ∷ shift_row here to) ≤ row_entries * nodes_most }
-    ensures { Wrote table.old row (kind ∷ x ∷ y ∷ shift_row here to) table.new result }
-{
-    tables::put_row(table, row, Row { kind, x, y });
-    let next = row + 1;
-    put_shift(table, next, here, to)
-}
-
-// The rows of node k's placed tree, and then a shift if it has to go elsewhere; the next row.
-pub(crate) fn write(
-    recs: [NodeRecord; 64],
-    lefts: &[u8; 64],
-    moves: Moves,
-    k: u8,
-    to: Offset,
-    row: u8,
-    table: &mut [u64],
-) -> u8
-    requires k_lt_nodes_most { k < nodes_most }
-    requires ready { Ready vector_bytes moves recs lefts.now (k + 1) }
-    requires to_bound { row_entries * row + length (moved_rows vector_bytes moves recs k to) ≤ row_entries * nodes_most }
-    ensures { Wrote table.old row (moved_rows vector_bytes moves recs k to) table.new result }
+// The rows of node k's placed tree, and then a shift if it has to go elsewhere.
+pub(crate) fn write(sheet: &MovedNodes, k: u8, to: Offset, rows: &mut Writer)
+    requires ready { Ready vector_bytes sheet.now (k + 1) }
+    requires room { HasRoom rows.old (moved_rows vector_bytes sheet.now k to) }
+    ensures { Wrote rows.old (moved_rows vector_bytes sheet.now k to) rows.new }
 {
     let at = k as usize;
-    let here = recs[at];
-    let node = here.node;
-    let offset = here.offset;
+    let NodeRecord { node, offset } = sheet.records[at];
     match node {
         Node::Load(load) => {
-            let address = load.address.0;
-            let stands = Offset::At(ByteOffset(address % V));
-            let loads = moves.loads;
-            let next = put_node(table, row, LOAD_KIND, load.window, address, stands, loads);
-            put_shift(table, next, offset, to)
+            let own = Row {
+                kind: FrameKind::Load.number(),
+                x: load.window,
+                y: load.address.0,
+            };
+            let stands = Offset::At(ByteOffset(load.address.0 % V));
+            rows.node(own, stands, sheet.moves.loads);
+            rows.shift(offset, to);
         }
-        Node::Splat(value) => put_node(table, row, SPLAT_KIND, value, 0, offset, to),
+        Node::Splat(value) => {
+            let own = Row {
+                kind: FrameKind::Splat.number(),
+                x: value,
+                y: 0,
+            };
+            rows.node(own, offset, to);
+        }
         Node::Op(operation) => {
-            let left = lefts[at];
+            let left = sheet.lefts[at];
             let right = k - 1;
-            let meeting = moves.meeting;
-            let meet = inputs_meet(recs, left, right, meeting);
-            let middle = write(recs, lefts, moves, left, meet, row, table);
-            let end = write(recs, lefts, moves, right, meet, middle, table);
-            put_node(table, end, OP_KIND, operation, 0, offset, to)
+            let x = sheet.records[left as usize].offset;
+            let y = sheet.records[right as usize].offset;
+            let meet = meeting_at(sheet.moves.meeting, x, y);
+            write(sheet, left, meet, rows);
+            write(sheet, right, meet, rows);
+            let own = Row {
+                kind: FrameKind::Op.number(),
+                x: operation,
+                y: 0,
+            };
+            rows.node(own, offset, to);
         }
         // A bare sheet has none.
-        Node::Shift(_) => row,
+        Node::Shift(_) => unreachable!(),
     }
 }

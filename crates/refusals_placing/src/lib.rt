@@ -30,6 +30,7 @@ fn lacks_room(head: &[u64], nodes: &[u64], placed_head: &[u64], placed_nodes: &[
 }
 
 // The lines of a sheet that passes as if read: BARE, then ALIGN.
+#[tactic(auto, using(graph_lines::proofs::StepLaws::steps))]
 fn judge_lines(head: Header, nodes: &[u64]) -> Result<(), Refusal>
     ensures { of_result result ≡ first (line_checks (graph_in head nodes.now)) }
 {
@@ -51,8 +52,8 @@ pub fn judge(
     if lacks_room(head, nodes, placed_head, placed_nodes) {
         return Err(Refusal::Room);
     }
-    let named = Rule::try_from(rule)?;
+    let rule = Rule::try_from(rule)?;
     graph::check(head, nodes)?;
     judge_lines(graph::header_of(head), nodes)?;
-    Ok(named)
+    Ok(rule)
 }

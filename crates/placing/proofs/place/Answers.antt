@@ -1,25 +1,38 @@
 -- ROOM leaves the tables, another refusal clears them, and otherwise they take the placed graph.
 use Rattle.placing.proofs.AnswerLaws.{done_accepted, room_leaves, done_leaves, refusal_leaves}
 use Rattle.placing.proofs.place.Goals as goal
+use Rattle.placing.proofs.place.Goals.{in-Room, in_default}
 
 pub hand_back-requires : goal.hand_back-requires
 hand_back-requires c =
-    let is-done = rw c.in-Done.is at c.judge-answer.ensures in
-    let ok = done_accepted c.args.rule c.args.head.now c.args.nodes.now c.args.placed_head.now c.args.placed_nodes.now is-done in
+    let a = c.args in
+    let ok = done_accepted a.rule a.head.now a.nodes.now a.placed_head.now a.placed_nodes.now c.in-Ok.ensures.result_value in
     record { bare_sheet = ok.sheet; head_entries_in_bounds = (ok.head_room, ok.nodes_room) }
 
-pub returns-in-Room : goal.returns-in-Room
-returns-in-Room c =
-    let is-room = rw c.in-Room.is at c.judge-answer.ensures in
-    room_leaves c.args.rule c.args.head.now c.args.nodes.now c.args.placed_head.now c.args.placed_nodes.now is-room
+pub returns-in-Ok : goal.returns-in-Ok
+returns-in-Ok c =
+    let a = c.args in
+    let back = rw c.in-Ok.ensures.rule_value at c.hand_back.ensures in
+    done_leaves a.rule a.head.now a.nodes.now a.placed_head.now a.placed_nodes.now _ _ c.in-Ok.ensures.result_value back.placed_head_after
+    back.placed_nodes_after
 
-pub returns-in-Done : goal.returns-in-Done
-returns-in-Done c =
-    let is-done = rw c.in-Done.is at c.judge-answer.ensures in
-    done_leaves c.args.rule c.args.head.now c.args.nodes.now c.args.placed_head.now c.args.placed_nodes.now _ _ is-done c.hand_back.ensures.placed_head_after
-    c.hand_back.ensures.placed_nodes_after
+pub returns-then-not-matches : goal.returns-then-not-matches
+returns-then-not-matches c =
+    let a = c.args in
+    let refused = c.in-Err.ensures.result_value in
+    elim c.match-matches.branch [
+      | in-Room w ↦ absurd (cc)
+      | in_default w ↦
+          refusal_leaves a.rule a.head.now a.nodes.now a.placed_head.now a.placed_nodes.now _ _ _ w.in_default.not-Room refused c.clear.ensures
+          c.clear-then-not-matches.ensures
+    ]
 
-pub returns-in_default : goal.returns-in_default
-returns-in_default c =
-    refusal_leaves c.args.rule c.args.head.now c.args.nodes.now c.args.placed_head.now c.args.placed_nodes.now c.judge-answer.result _ _
-    c.in_default.not-Room c.in_default.not-Done c.judge-answer.ensures c.clear.ensures c.clear-in_default.ensures
+pub returns-else-not-matches : goal.returns-else-not-matches
+returns-else-not-matches c =
+    let a = c.args in
+    let refused = c.in-Err.ensures.result_value in
+    elim c.match-matches.branch [
+      | in-Room w ↦
+          rw w.in-Room.is (room_leaves a.rule a.head.now a.nodes.now a.placed_head.now a.placed_nodes.now (rw w.in-Room.is at refused))
+      | in_default w ↦ absurd (cc)
+    ]
