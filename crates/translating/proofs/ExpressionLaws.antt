@@ -118,12 +118,15 @@ module _ {nodes left : List ℕ} {k blocks row : ℕ} {section : List ℕ} (r : 
               omega (arith, r.room, written_length first, written_length second),
             )
 
-        pub op_coded : {after : List ℕ} {next : ℕ} → handed next after ≡ putting two end (Op end (cut o) (middle - 1) (end - 1))
+        pub op_coded : (x y : ℕ) → x + 1 ≡ middle → y + 1 ≡ end → {after : List ℕ} {next : ℕ}
+            → handed next after ≡ putting two end (Op end (cut o) x y)
             → Written section after row next (code vector_bytes (tree nodes left k) blocks row)
         unfolding code
-        op_coded e =
+        op_coded x y one_is other_is e =
             let q = op_room in
-            let w = put_written q.4 q.5 (rw (cut_small o (omega (arith, q.0))) at e) in
+            let first_register : x ≡ middle - 1 = omega arith in
+            let second_register : y ≡ end - 1 = omega arith in
+            let w = put_written q.4 q.5 (rw (cut_small o (omega (arith, q.0)), first_register, second_register) at e) in
             rw op_made
             (rw (← (code_rows (tree nodes left l) blocks first), ← (code_rows (tree nodes left (k - 1)) blocks second))
             (written_then first (written_then second w)))
@@ -192,15 +195,17 @@ module _ {nodes left : List ℕ} {k blocks row : ℕ} {section : List ℕ} (r : 
               omega (arith, r.room, written_length this, written_length other),
             )
 
-        pub shift_coded : {after : List ℕ} {next : ℕ}
-            → handed next after ≡ putting two end (pair_up vector_bytes (cut s.«from».0) (cut s.to.0) end (middle - 1) (end - 1))
+        pub shift_coded : (x y : ℕ) → x + 1 ≡ middle → y + 1 ≡ end → {after : List ℕ} {next : ℕ}
+            → handed next after ≡ putting two end (pair_up vector_bytes (cut s.«from».0) (cut s.to.0) end x y)
             → Written section after row next (code vector_bytes (tree nodes left k) blocks row)
         unfolding code
-        shift_coded p =
+        shift_coded x y one_is other_is p =
+            let this_register : x ≡ middle - 1 = omega arith in
+            let other_register : y ≡ end - 1 = omega arith in
             let q = pair_room in
             let from_small = cut_small s.«from».0 (omega (arith, q.0)) in
             let to_small = cut_small s.to.0 (omega (arith, q.1)) in
-            let w = put_written q.5 q.6 (rw (from_small, to_small) at p) in
+            let w = put_written q.5 q.6 (rw (from_small, to_small, this_register, other_register) at p) in
             rw shift_made
             (rw (← e, ← (code_rows (tree nodes left (k - 1)) blocks this), ← (code_rows (tree nodes left (k - 1)) moved other))
             (written_then this (written_then other w)))

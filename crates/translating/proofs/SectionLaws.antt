@@ -51,97 +51,95 @@ module _ {nodes left : List ℕ} {root S : ℕ} (r : Root nodes left root S) whe
         let v = put_written tree_room.1 tree_room.2 (rw (window, address) at e) in
         rw tree_end at (written_then w v)
 
-    pub body_written : {after : List ℕ} {next : ℕ} (full : ℕ) → 2 ≤ full
-        → handed next after ≡ putting one old (Store (old - 1) (cut (held vector_bytes S)))
+    pub body_written : (x : ℕ) → x + 1 ≡ old → {after : List ℕ} {next : ℕ} (full : ℕ) → 2 ≤ full
+        → handed next after ≡ putting one old (Store x (cut (held vector_bytes S)))
         → Written before after 0 next (body_of vector_bytes S t full)
     unfolding body_section block_zero
-    body_written zero h e = absurd (omega arith)
-    body_written (suc zero) h e = absurd (omega arith)
-    body_written (suc (suc full)) h e =
-        rw tree_end at (written_then w (store_written tree_room.1 tree_room.2 r.address e))
+    body_written x x_is zero h e = absurd (omega arith)
+    body_written x x_is (suc zero) h e = absurd (omega arith)
+    body_written x x_is (suc (suc full)) h e =
+        let register : x ≡ old - 1 = omega arith in
+        rw tree_end at (written_then w (store_written tree_room.1 tree_room.2 r.address (rw register at e)))
 
   pub no_body : (section : List ℕ) (full : ℕ) → full < 2 → Written section section 0 0 (body_of vector_bytes S t full)
   no_body section zero h = written_none section 0
   no_body section (suc zero) h = written_none section 0
   no_body section (suc (suc full)) h = absurd (omega arith)
 
-  -- what is free after the old block, and how it goes on
-  module _ {before one : List ℕ} {first : ℕ} (room : Roomy before)
-      (w : Written before one 0 first (new_and_old S t)) where
+  -- what is free after the old block, and how it goes on; x and y are the registers of the new block and of the old one
+  module _ {before one : List ℕ} {first : ℕ} (room : Roomy before) (w : Written before one 0 first (new_and_old S t))
+      (x y : ℕ) (x_is : x + 2 ≡ first) (y_is : y + 1 ≡ first) where
     first_row : first ≡ G t + 1
     first_row =
         let n = length-append (new vector_bytes S t) (old_block vector_bytes S t (G t) ∷ []) in
         omega (arith, w.rows, n, length_code vector_bytes t (block_zero vector_bytes) 0)
 
-    pub blocks_room : (2 ≤ first) × (first + 3 ≤ section_most) × Roomy one
+    blocks_room : (first + 3 ≤ section_most) × Roomy one
     blocks_room =
         let e = first_row in
-        (omega (arith, size_pos t), omega (arith, r.short), omega (arith, room, written_length w))
+        (omega (arith, r.short), omega (arith, room, written_length w))
 
     then : {after : List ℕ} {next : ℕ} (is : List Instruction) → Written one after first next is
         → Written before after 0 next (new vector_bytes S t ++ (old_block vector_bytes S t (G t) ∷ is))
     then is v = rw append_assoc at (written_then w v)
 
     here : first < section_most
-    here = omega (arith, blocks_room.1)
+    here = omega (arith, blocks_room.0)
+
+    new_is : x ≡ G t - 1
+    new_is = omega (arith, first_row)
+
+    old_is : y ≡ G t
+    old_is = omega (arith, first_row)
+
+    -- a splice right after the blocks, and the store of what it made
+    spliced_stored : {two after : List ℕ} {last next : ℕ} (a b amount : ℕ) → amount < low_values
+        → handed last two ≡ putting one first (Splice first a b (cut amount))
+        → handed next after ≡ putting two last (Store first (cut (held vector_bytes S)))
+        → Written one after first next (Splice first a b amount ∷ Store first (held vector_bytes S) ∷ [])
+    spliced_stored {two} {after} {last} {next} a b amount small spliced stored =
+        let p : Written one two first last (Splice first a b amount ∷ []) = splice_written here blocks_room.1 small spliced in
+        let long = written_length p in
+        written_then p (store_written (omega (arith, p.rows, blocks_room.0)) (omega (arith, blocks_room.1)) r.address stored)
 
     module _ {two : List ℕ} {last c : ℕ} (at_c : c ≡ store_offset vector_bytes S) where
       pub prologue_written : {after : List ℕ} {next : ℕ}
-          → handed last two ≡ putting one first (Splice first (first - 1) (first - 2) (cut c))
+          → handed last two ≡ putting one first (Splice first y x (cut c))
           → handed next after ≡ putting two last (Store first (cut (held vector_bytes S)))
           → Written before after 0 next (prologue_section vector_bytes S t)
       unfolding prologue_section
-      prologue_written {after} {next} spliced stored =
-          let p : Written one two first last (Splice first (first - 1) (first - 2) c ∷ []) =
-          splice_written here blocks_room.2 (offset_fits S c at_c) spliced in
-          let long = written_length p in
-          let q : Written two after last next (Store first (held vector_bytes S) ∷ []) =
-          store_written (omega (arith, p.rows, blocks_room.1)) (omega (arith, blocks_room.2)) r.address stored in
-          let f = first_row in
-          let a : first - 1 ≡ G t = omega arith in
-          let b : first - 2 ≡ G t - 1 = omega arith in
-          rw (a, b, at_c, f) at (then _ (written_then p q))
+      prologue_written spliced stored =
+          rw (old_is, new_is, at_c, first_row) at (then _ (spliced_stored y x c (offset_fits S c at_c) spliced stored))
 
       pub only_written : (D n : ℕ) → n * D ≤ elements_most * 8 → {len : ℕ} → len ≡ n * D → {three after : List ℕ} {second next : ℕ}
-          → handed second two ≡ putting one first (Splice first (first - 1) (first - 2) (cut c))
-          → handed last three ≡ putting two second (Splice second first (first - 1) (cut (c + len)))
+          → handed second two ≡ putting one first (Splice first y x (cut c))
+          → handed last three ≡ putting two second (Splice second first y (cut (c + len)))
           → handed next after ≡ putting three last (Store second (cut (held vector_bytes S)))
           → Written before after 0 next (only_section vector_bytes S t D n)
       unfolding only_section
       only_written D n few {len} l {three} {after} {second} {next} spliced again stored =
-          let p : Written one two first second (Splice first (first - 1) (first - 2) c ∷ []) =
-          splice_written here blocks_room.2 (offset_fits S c at_c) spliced in
+          let p : Written one two first second (Splice first y x c ∷ []) =
+          splice_written here blocks_room.1 (offset_fits S c at_c) spliced in
           let long = written_length p in
           let end_fits : c + len < low_values = omega (arith, offset_small S) in
-          let q : Written two three second last (Splice second first (first - 1) (c + len) ∷ []) =
-          splice_written (omega (arith, p.rows, blocks_room.1)) (omega (arith, blocks_room.2)) end_fits again in
+          let q : Written two three second last (Splice second first y (c + len) ∷ []) =
+          splice_written (omega (arith, p.rows, blocks_room.0)) (omega (arith, blocks_room.1)) end_fits again in
           let long' = written_length q in
           let s : Written three after last next (Store second (held vector_bytes S) ∷ []) =
-          store_written (omega (arith, p.rows, q.rows, blocks_room.1)) (omega (arith, blocks_room.2)) r.address stored in
+          store_written (omega (arith, p.rows, q.rows, blocks_room.0)) (omega (arith, blocks_room.1)) r.address stored in
           let f = first_row in
-          let a : first - 1 ≡ G t = omega arith in
-          let b : first - 2 ≡ G t - 1 = omega arith in
           let e : second ≡ G t + 2 = omega (arith, p.rows) in
-          rw (a, b, at_c, l, e, f) at (then _ (written_then p (written_then q s)))
+          rw (old_is, new_is, at_c, l, e, f) at (then _ (written_then p (written_then q s)))
 
     pub epilogue_written : (D e : ℕ) → (e ≡ 0 → ⊥) → e * D ≤ elements_most * 8 → {len : ℕ} → len ≡ e * D
         → {two after : List ℕ} {last next : ℕ}
-        → handed last two ≡ putting one first (Splice first (first - 2) (first - 1) (cut len))
+        → handed last two ≡ putting one first (Splice first x y (cut len))
         → handed next after ≡ putting two last (Store first (cut (held vector_bytes S)))
         → Written before after 0 next (epilogue_of vector_bytes D S t e)
     unfolding epilogue_section
     epilogue_written D zero h few l spliced stored = absurd (h refl)
-    epilogue_written D (suc e) h few {len} l {two} {after} {last} {next} spliced stored =
-        let fits : len < low_values = omega arith in
-        let p : Written one two first last (Splice first (first - 2) (first - 1) len ∷ []) =
-        splice_written here blocks_room.2 fits spliced in
-        let long = written_length p in
-        let q : Written two after last next (Store first (held vector_bytes S) ∷ []) =
-        store_written (omega (arith, p.rows, blocks_room.1)) (omega (arith, blocks_room.2)) r.address stored in
-        let f = first_row in
-        let a : first - 1 ≡ G t = omega arith in
-        let b : first - 2 ≡ G t - 1 = omega arith in
-        rw (a, b, l, f) at (then _ (written_then p q))
+    epilogue_written D (suc e) h few {len} l spliced stored =
+        rw (old_is, new_is, l, first_row) at (then _ (spliced_stored x y len (omega arith) spliced stored))
 
   pub no_epilogue : (section : List ℕ) (D e : ℕ) → e ≡ 0 → Written section section 0 0 (epilogue_of vector_bytes D S t e)
   no_epilogue section D e h = rw h (written_none section 0)

@@ -1,6 +1,6 @@
 -- What each answer leaves, as the definition of translating lays it down; and what a graph has that nothing refused: the root's
 -- code can be written, and fits.
-use Prim.Native.Nat.{ℕ, suc, ◌+◌, ◌-◌, ◌%◌, ◌≤◌, ◌<◌}
+use Prim.Native.Nat.{ℕ, zero, suc, ◌+◌, ◌-◌, ◌%◌, ◌≤◌, ◌<◌}
 use native.Mathlib.Nat.{zero-add}
 use native.Mathlib.Omega.{arith}
 use mathlib.Core.Path.{◌≡◌, refl, sym, ap, ◌∙◌}
@@ -8,21 +8,22 @@ use mathlib.Core.Bool.{Bool, true, false, ◌&&◌, ◌||◌}
 use mathlib.Core.List.{List, [], ◌∷◌, ◌++◌, append-nil, append_assoc}
 use borrow.Author.Tests.{ltb-true, leb-true, ltb-false}
 use lib.Dec.{ltb, leb, eqb}
+use Rattle.std.specs.Prelude.{Ok, Err}
 use lib.ListN.{length, get_or, length-append}
 use lib.Seq.{sets}
 use Rattle.rules.specs.Limits.{vector_bytes, nodes_most, elements_most, address_most, section_most}
-use Rattle.rules.specs.Answers.{Answer, DONE, done, of_translate}
+use Rattle.rules.specs.Answers.{Answer, DONE, done, of_refusal}
 use Rattle.rules.specs.Units.{width_bytes}
 use Rattle.rules.specs.Ranges.{head_ok, load_ok, op_ok, shift_ok, row_ok}
 use Rattle.rules.specs.Trees.{Tree, load, splat, op, shift, node_at, tree_at}
 use Rattle.rules.specs.Machine.{Program}
-use Rattle.rules.specs.Tables.{Graph, graph_of, entries, program_head, no_program, padded}
+use Rattle.rules.specs.Tables.{Graph, graph_of, entries, program_head, no_program, padded, table_left, head_left}
 use Rattle.rules.specs.Checks.{section_short, head_short, nodes_short, room_check, form_check, window_check, align_check, bounds_check, carry_check, offset_check, long_check}
 use Rattle.rules.specs.Calls.{WithProgram, graph_tree, graph_program, program_left, translate_answer, translating}
-use Rattle.rules.specs.declared.answers.TranslateAnswer.{TranslateAnswer}
-use Rattle.rules.specs.declared.answers.TranslateAnswer.TheVariants as Translate
+use Rattle.rules.specs.declared.answers.Refusal.{Refusal}
 use Rattle.rules.specs.declared.program.Instruction.{Instruction}
 use Rattle.rules.specs.declared.program.ProgramHead.{ProgramHead}
+use Rattle.theory.proofs.AnswerLaws.{refusal_not_done}
 use Rattle.theory.proofs.Lists.{and_left, and_right}
 use Rattle.theory.proofs.RowLaws.{length_entries, length_padded}
 use Rattle.theory.proofs.FormLaws.{Formed, TreeOk, each_check_done, refuse_done, passes_formed, formed_tree_ok}
@@ -35,7 +36,6 @@ use Rattle.graph.specs.declared.headers.Header.{Header}
 use Rattle.graph.specs.Headers.{header_of, graph_in}
 use Rattle.graph.proofs.InputLaws.{some_node, linked_root, root_tree}
 use Rattle.graph.proofs.HeaderLaws.{header_graph}
-use Rattle.refusals_translating.proofs.JudgeLaws.{NotDone, NotRoom}
 use Rattle.translating_rows.specs.Putting.{written}
 use Rattle.translating.specs.Writing.{Written, Roomy, Ranged, Root}
 use Rattle.translating.specs.Programs.{headed, Emitted, program_given}
@@ -106,6 +106,31 @@ checks head nodes work_len table_len P B E =
 
 -- ---- what each answer leaves
 
+-- what a refusal leaves, whatever the program would have been
+pub refused_leaves : (r : Refusal) (D : ℕ) (p : Program) (P B E : List ℕ)
+    → program_given (Err r) (table_left (of_refusal r).number P []) (table_left (of_refusal r).number B []) (table_left (of_refusal r).number E [])
+    ≡ program_left (of_refusal r) D p P B E
+refused_leaves r D p P B E =
+    rw (head_none n (program_head D p) h, same P (entries p.prologue) n h, same B (entries p.body) n h, same E (entries p.epilogue) n h)
+  where
+    n : ℕ
+    n = (of_refusal r).number
+
+    h : 0 < n
+    h = refusal_not_done r
+
+    same : (before made : List ℕ) (n : ℕ) → 0 < n → table_left n before made ≡ table_left n before []
+    same before made zero h = absurd (omega arith)
+    same before made (suc zero) h = refl
+    same before made (suc (suc n)) h = refl
+
+    head_none : (n : ℕ) (made : ProgramHead) → 0 < n → head_left n made ≡ no_program
+    head_none zero made h = absurd (omega arith)
+    head_none (suc n) made h = refl
+
+abbrev cleared : List ℕ → List ℕ
+cleared section = padded (length section) []
+
 module _ (head nodes : List ℕ) (work_len table_len : ℕ) (P B E : List ℕ) where
   abbrev g : Graph
   g = graph_of head nodes
@@ -113,45 +138,18 @@ module _ (head nodes : List ℕ) (work_len table_len : ℕ) (P B E : List ℕ) w
   abbrev p : Program
   p = graph_program vector_bytes g
 
-  -- an answer is the one that the checks give
-  abbrev pub Answers : TranslateAnswer → Type 0
-  Answers a = of_translate a ≡ translate_answer vector_bytes head nodes work_len table_len P B E
-
-  -- a program with these sections, as it is given
-  abbrev pub given : TranslateAnswer → ProgramHead → (P B E : List ℕ) → WithProgram
-  given a h P B E = program_given (record { answer = a; head = h }) P B E
-
   abbrev pub all : WithProgram
   all = translating vector_bytes head nodes work_len table_len P B E
 
-  pub room_leaves : Answers Translate.Room → given Translate.Room no_program P B E ≡ all
+  pub refusal_leaves : (r : Refusal) → of_refusal r ≡ translate_answer vector_bytes head nodes work_len table_len P B E
+      → program_given (Err r) (table_left (of_refusal r).number P []) (table_left (of_refusal r).number B []) (table_left (of_refusal r).number E [])
+      ≡ all
   unfolding translating
-  room_leaves e = rw (← e)
-
-  abbrev cleared : List ℕ → List ℕ
-  cleared section = padded (length section) []
-
-  pub refusal_leaves : (a : TranslateAnswer) → Answers a → NotDone a → NotRoom a
-      → given a no_program (cleared P) (cleared B) (cleared E) ≡ all
-  unfolding translating
-  refusal_leaves a e not_done not_room = rw (← e) (go a not_done not_room)
-    where
-      go : (a : TranslateAnswer) → NotDone a → NotRoom a
-          → given a no_program (cleared P) (cleared B) (cleared E) ≡ program_left (of_translate a) g.D p P B E
-      go Translate.Done d r = absurd (d refl)
-      go Translate.Room d r = absurd (r refl)
-      go (Translate.Range k) d r = refl
-      go (Translate.Shape k) d r = refl
-      go (Translate.Window k) d r = refl
-      go (Translate.Align k) d r = refl
-      go (Translate.Bounds k) d r = refl
-      go (Translate.Carry k) d r = refl
-      go (Translate.Offset k) d r = refl
-      go Translate.Long d r = refl
+  refusal_leaves r e = rw (← e) (refused_leaves r g.D p P B E)
 
   -- ---- a graph that nothing refused
 
-  module _ (e : Answers Translate.Done) where
+  module _ (e : done ≡ translate_answer vector_bytes head nodes work_len table_len P B E) where
     abbrev h : Header
     h = header_of head
 
@@ -201,7 +199,7 @@ module _ (head nodes : List ℕ) (work_len table_len : ℕ) (P B E : List ℕ) w
 
     pub program_leaves : {made : ProgramHead} {P' B' E' : List ℕ}
         → Emitted (width_bytes h.width) (headed vector_bytes h nodes) made (cleared P) (cleared B) (cleared E) P' B' E'
-        → given Translate.Done made P' B' E' ≡ all
+        → program_given (Ok made) P' B' E' ≡ all
     unfolding translating
     program_leaves {made} {P'} {B'} {E'} m =
         let m' : Emitted g.D p made (cleared P) (cleared B) (cleared E) P' B' E' =

@@ -58,12 +58,16 @@ pub cut_small : (n : ℕ) → n < low_values → cut n ≡ n
 unfolding cut
 cut_small n h = mod-eq_of_lt h
 
+-- the row after the one that was written
+pub row_after : (before : List ℕ) {after : List ℕ} {row next : ℕ} (i : Instruction) → row < section_most → handed next after ≡ putting before row i → row + 1 ≡ next
+row_after before {row = row} i h e = sym (ap (λ (x : Handed). x.next) e ∙ cut_small (row + 1) (omega arith))
+
 pub put_written : {before after : List ℕ} {row next : ℕ} {i : Instruction} → row < section_most → Roomy before
     → handed next after ≡ putting before row i → Written before after row next (i ∷ [])
 put_written {before} {row = row} h room e =
     let inside = le-ltb (length before) (instruction_entries * row + instruction_entries) (omega arith) in
     record {
-      rows = ap (λ (x : Handed). x.next) e ∙ cut_small (row + 1) (omega arith);
+      rows = sym (row_after before _ h e);
       holds = rw inside at (ap (λ (x : Handed). x.section) e);
     }
 

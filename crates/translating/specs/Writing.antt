@@ -6,11 +6,17 @@ use Rattle.rules.specs.Code.{G, new, old_block}
 use Rattle.rules.specs.declared.program.Instruction.{Instruction}
 use Rattle.graph.specs.Links.{Linked}
 use Rattle.translating_rows.specs.Putting.{written}
+use Rattle.translating_rows.specs.declared.Writer.{Writer}
+use Rattle.translating.specs.declared.expressions.Subtree.{Subtree}
 
 -- a section before and after these instructions were written from a row on, and the row after them
 pub record Written (before after : List ℕ) (row next : ℕ) (is : List Instruction) : Type 0 where
   pub rows : next ≡ row + length is
   pub holds : after ≡ written before row is
+
+-- a writer before and after it wrote these instructions, from its row on
+abbrev pub Wrote : (before after : Writer) → List Instruction → Type 0
+Wrote before after is = Written before.section.now after.section.now before.row after.row is
 
 -- a section that is long enough, as ROOM asks
 abbrev pub Roomy : List ℕ → Type 0
@@ -45,6 +51,16 @@ pub record Root (nodes left : List ℕ) (root S : ℕ) : Type 0 where
   pub known : root < nodes_most
   pub short : G (tree_at (node_at nodes) root) ≤ long_most
   pub address : S ≤ address_most
+
+-- the same of a tree that is handed over as one, and of a writer
+abbrev pub tree_of : Subtree → Tree
+tree_of s = tree_at (node_at s.nodes.now) s.root
+
+abbrev pub ReadyAt : Subtree → (blocks : ℕ) → Writer → Type 0
+ReadyAt s blocks writer = Ready s.nodes.now s.left.now s.root blocks writer.row writer.section.now
+
+abbrev pub RootAt : Subtree → (S : ℕ) → Type 0
+RootAt s S = Root s.nodes.now s.left.now s.root S
 
 -- what every section but the body begins with: the tree, and the old block
 abbrev pub new_and_old : (S : ℕ) → Tree → List Instruction

@@ -15,32 +15,19 @@ pub(crate) struct Split {
     pub rest: ElementNumber,
 }
 
-pub(crate) fn width_bytes(width: Width) -> u64
-    ensures { result ≡ width_bytes width }
-{
-    match width {
-        Width::One => 1,
-        Width::Two => 2,
-        Width::Four => 4,
-        Width::Eight => 8,
-    }
-}
-
 fn element_of_byte(width: Width, at: ByteOffset) -> ElementNumber
     ensures { result ≡ element_of_byte (width_bytes width) at }
 {
-    let d = width_bytes(width);
-    let i = at.0 / d;
-    ElementNumber(i)
+    let d = width.bytes();
+    ElementNumber(at.0 / d)
 }
 
 pub(crate) fn byte_of_element(width: Width, i: ElementNumber) -> ByteOffset
     requires { i.0 ≤ elements_most }
     ensures { result ≡ byte_of_element (width_bytes width) i }
 {
-    let d = width_bytes(width);
-    let at = i.0 * d;
-    ByteOffset(at)
+    let d = width.bytes();
+    ByteOffset(i.0 * d)
 }
 
 // c, where the stream starts in its first vector.
@@ -56,13 +43,11 @@ pub(crate) fn split_stream(width: Width, elements: ElementNumber, store: ByteOff
     ensures rest_value { result.rest.0 ≡ rest_elements vector_bytes (width_bytes width) elements.0 store.0 }
 {
     let first = element_of_byte(width, store_offset(store));
-    let d = width_bytes(width);
+    let d = width.bytes();
     let lanes = V / d;
     let end = first.0 + elements.0;
-    let full = end / lanes;
-    let rest = end % lanes;
     Split {
-        full: VectorNumber(full),
-        rest: ElementNumber(rest),
+        full: VectorNumber(end / lanes),
+        rest: ElementNumber(end % lanes),
     }
 }

@@ -5,7 +5,8 @@ ghost use Rattle.rules.specs.Units.{width_bytes};
 ghost use Rattle.translating.specs.Writing.{Roomy, Root};
 ghost use Rattle.translating.specs.Programs.{Emitted, headed};
 
-use crate::counts::{split_stream, width_bytes};
+use crate::counts::split_stream;
+use crate::expressions::Subtree;
 use crate::sections::{put_body, put_epilogue, put_only, put_prologue};
 use graph::Header;
 use rules::program::ProgramHead;
@@ -27,13 +28,12 @@ pub(crate) fn emit(
     let width = header.width;
     let store = header.store;
     let root = header.count - 1;
+    let tree = Subtree { nodes, left, root };
     let elements = ElementNumber(header.elements);
     let split = split_stream(width, elements, store);
-    let full = split.full;
-    let rest = split.rest;
     let mut program = ProgramHead {
-        d: width_bytes(width),
-        f: full.0,
+        d: width.bytes(),
+        f: split.full.0,
         prologue: 0,
         body: 0,
         epilogue: 0,
@@ -41,12 +41,12 @@ pub(crate) fn emit(
     if elements.0 == 0 {
         return program;
     }
-    if full.0 == 0 {
-        program.prologue = put_only(nodes, left, root, store, width, elements, prologue) as u64;
+    if split.full.0 == 0 {
+        program.prologue = put_only(tree, store, width, elements, prologue) as u64;
         return program;
     }
-    program.prologue = put_prologue(nodes, left, root, store, prologue) as u64;
-    program.body = put_body(nodes, left, root, store, full, body) as u64;
-    program.epilogue = put_epilogue(nodes, left, root, store, width, rest, epilogue) as u64;
+    program.prologue = put_prologue(tree, store, prologue) as u64;
+    program.body = put_body(tree, store, split.full, body) as u64;
+    program.epilogue = put_epilogue(tree, store, width, split.rest, epilogue) as u64;
     program
 }

@@ -46,6 +46,5 @@ abbrev pub putting : (section : List ℕ) (row : ℕ) → Instruction → Handed
 putting section row i = handed (cut (row + 1)) (row_put section row i)
 
 -- a writer before and after it put an instruction into its row
-pub record Puts (before after : Writer) (i : Instruction) : Type 0 where
-  pub same_section : after.section.ghost_name ≡ before.section.ghost_name
-  pub rows : handed after.row after.section.now ≡ putting before.section.now before.row i
+abbrev pub Puts : (before after : Writer) → Instruction → Type 0
+Puts before after i = handed after.row after.section.now ≡ putting before.section.now before.row i

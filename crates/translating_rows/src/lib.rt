@@ -7,9 +7,11 @@ ghost use Rattle.std.specs.Prelude.{◌≡◌, ◌+◌, ◌*◌, ◌/◌, [], le
 ghost use Rattle.rules.specs.Limits.{vector_bytes, low_values};
 ghost use Rattle.rules.specs.Machine.{Splat, Op, Splice};
 ghost use Rattle.rules.specs.Code.{pair_up};
-ghost use Rattle.rules.specs.Tables.{padded};
+ghost use Rattle.rules.specs.Answers.{of_refusal};
+ghost use Rattle.rules.specs.Tables.{padded, table_left};
 ghost use Rattle.translating_rows.specs.Putting.{cut, row_put, load_of, pair_of, store_of, Puts};
 
+use rules::answers::Refusal;
 use rules::kinds::InstructionKind;
 use rules::limits::{BLOCK_ZERO, INSTRUCTION_ENTRIES, LOW_VALUES, V};
 use rules::nodes::{LoadAt, ShiftBy};
@@ -19,6 +21,7 @@ use rules::units::{ByteOffset, VectorNumber};
 const VECTOR: u32 = 16;
 
 // A section, and the row that is written next.
+#[derive(Drop)]
 pub struct Writer<'a> {
     pub section: &'a mut [u32],
     pub row: u32,
@@ -34,7 +37,8 @@ impl<'a> Writer<'a> {
     }
 
     fn put(&mut self, i: Instruction)
-        ensures { Puts self.old self.new i }
+        ensures same_section { self.new.section.ghost_name ≡ self.old.section.ghost_name }
+        ensures written { Puts self.old self.new i }
     {
         let row = self.row;
         self.row = row.wrapping_add(1);
@@ -42,6 +46,7 @@ impl<'a> Writer<'a> {
     }
 
     pub fn load(&mut self, from: LoadAt, blocks: VectorNumber) -> u32
+        ensures same_section { self.new.section.ghost_name ≡ self.old.section.ghost_name }
         ensures written { Puts self.old self.new (load_of self.old.row from blocks.0) }
         ensures register { result ≡ self.old.row }
     {
@@ -58,6 +63,7 @@ impl<'a> Writer<'a> {
     }
 
     pub fn splat(&mut self, value: u64) -> u32
+        ensures same_section { self.new.section.ghost_name ≡ self.old.section.ghost_name }
         ensures written { Puts self.old self.new (Splat self.old.row (cut value) (value / low_values)) }
         ensures register { result ≡ self.old.row }
     {
@@ -74,6 +80,7 @@ impl<'a> Writer<'a> {
     }
 
     pub fn op(&mut self, operation: u64, left: u32, right: u32) -> u32
+        ensures same_section { self.new.section.ghost_name ≡ self.old.section.ghost_name }
         ensures written { Puts self.old self.new (Op self.old.row (cut operation) left right) }
         ensures register { result ≡ self.old.row }
     {
@@ -90,6 +97,7 @@ impl<'a> Writer<'a> {
     }
 
     pub fn pair(&mut self, by: ShiftBy, this: u32, other: u32) -> u32
+        ensures same_section { self.new.section.ghost_name ≡ self.old.section.ghost_name }
         ensures written { Puts self.old self.new (pair_of self.old.row by this other) }
         ensures register { result ≡ self.old.row }
     {
@@ -101,6 +109,7 @@ impl<'a> Writer<'a> {
     }
 
     pub fn splice(&mut self, first: u32, second: u32, amount: ByteOffset) -> u32
+        ensures same_section { self.new.section.ghost_name ≡ self.old.section.ghost_name }
         ensures written { Puts self.old self.new (Splice self.old.row first second (cut amount.0)) }
         ensures register { result ≡ self.old.row }
     {
@@ -118,7 +127,8 @@ impl<'a> Writer<'a> {
 
     // A store writes no register.
     pub fn store(&mut self, source: u32, store: ByteOffset)
-        ensures { Puts self.old self.new (store_of source store.0) }
+        ensures same_section { self.new.section.ghost_name ≡ self.old.section.ghost_name }
+        ensures written { Puts self.old self.new (store_of source store.0) }
     {
         self.put(Instruction {
             kind: InstructionKind::Store.number(),
@@ -182,9 +192,24 @@ fn pair_up(from: u32, to: u32, destination: u32, this: u32, other: u32) -> Instr
     }
 }
 
-// Sets every entry of a section to 0.
-pub fn clear(section: &mut [u32])
-    ensures { section.new ≡ padded (length section.old) [] }
+// Sets every entry of the sections to 0.
+pub fn clear(prologue: &mut [u32], body: &mut [u32], epilogue: &mut [u32])
+    ensures prologue_zero { prologue.new ≡ padded (length prologue.old) [] }
+    ensures body_zero { body.new ≡ padded (length body.old) [] }
+    ensures epilogue_zero { epilogue.new ≡ padded (length epilogue.old) [] }
 {
-    section.fill(0);
+    prologue.fill(0);
+    body.fill(0);
+    epilogue.fill(0);
+}
+
+// What a refused call leaves of the sections: ROOM leaves them as they are, another refusal all zero.
+pub fn refuse(refusal: Refusal, prologue: &mut [u32], body: &mut [u32], epilogue: &mut [u32])
+    ensures prologue_left { prologue.new ≡ table_left (of_refusal refusal).number prologue.old [] }
+    ensures body_left { body.new ≡ table_left (of_refusal refusal).number body.old [] }
+    ensures epilogue_left { epilogue.new ≡ table_left (of_refusal refusal).number epilogue.old [] }
+{
+    if refusal != Refusal::Room {
+        clear(prologue, body, epilogue);
+    }
 }

@@ -5,11 +5,11 @@ use native.Mathlib.Omega.{arith}
 use Rattle.translating.proofs.CountLaws.{width_most_lem}
 use Rattle.translating.proofs.counts.byte_of_element.Goals as goal
 
-pub overflow_mul-at : goal.overflow_mul-at
-overflow_mul-at c =
-    let most : c.width_bytes-d.result ≤ 8 = rw c.width_bytes-d.ensures (width_most_lem c.args.width) in
+pub overflow_mul-result : goal.overflow_mul-result
+overflow_mul-result c =
+    let most : c.bytes-d.result ≤ 8 = rw c.bytes-d.ensures (width_most_lem c.args.width) in
     omega (arith, mul-le-mul c.requires most)
 
 pub returns : goal.returns
 returns c =
-    rw c.width_bytes-d.ensures
+    rw c.bytes-d.ensures

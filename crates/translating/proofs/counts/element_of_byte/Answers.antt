@@ -3,4 +3,4 @@ use Rattle.translating.proofs.counts.element_of_byte.Goals as goal
 
 pub returns : goal.returns
 returns c =
-    rw c.width_bytes-d.ensures
+    rw c.bytes-d.ensures

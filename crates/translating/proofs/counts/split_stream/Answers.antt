@@ -16,6 +16,6 @@ pub returns : goal.returns
 returns c =
     let first = ap (λ (x : ElementNumber). x.0) c.element_of_byte-first.ensures in
     record {
-      full_value = rw (first, c.store_offset.ensures, c.width_bytes-d.ensures);
-      rest_value = rw (first, c.store_offset.ensures, c.width_bytes-d.ensures);
+      full_value = rw (first, c.store_offset.ensures, c.bytes-d.ensures);
+      rest_value = rw (first, c.store_offset.ensures, c.bytes-d.ensures);
     }

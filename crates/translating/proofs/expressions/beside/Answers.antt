@@ -3,10 +3,10 @@ use borrow.Author.Tests.{lt-ltb, le-ltb}
 use Rattle.rules.specs.Code.{beside}
 use Rattle.translating.proofs.expressions.beside.Goals as goal
 
-pub returns-then-to-from : goal.returns-then-to-from
+pub returns-then-by : goal.returns-then-by
 unfolding beside
-returns-then-to-from c = rw (lt-ltb _ _ c.if-to-from.true)
+returns-then-by c = rw (lt-ltb _ _ c.if-by.true)
 
-pub returns-else-to-from : goal.returns-else-to-from
+pub returns-else-by : goal.returns-else-by
 unfolding beside
-returns-else-to-from c = rw (le-ltb _ _ c.if-to-from.false)
+returns-else-by c = rw (le-ltb _ _ c.if-by.false)

@@ -13,16 +13,16 @@ returns-then-elements-eq0 c =
     let a = c.args in
     let h = a.header in
     emitted_none vector_bytes (width_bytes h.width) h.elements h.store.0 (tree_at (node_at a.nodes.now) (h.count - 1))
-    c.width_bytes.ensures c.split_stream-split.ensures.full_value c.split_stream-split.ensures.rest_value a.prologue.now a.body.now a.epilogue.now
+    c.bytes.ensures c.split_stream-split.ensures.full_value c.split_stream-split.ensures.rest_value a.prologue.now a.body.now a.epilogue.now
     c.if-elements-eq0.true
 
-pub returns-then-full-eq0 : goal.returns-then-full-eq0
-returns-then-full-eq0 c =
+pub returns-then-split-eq0 : goal.returns-then-split-eq0
+returns-then-split-eq0 c =
     let a = c.args in
     let h = a.header in
     emitted_only vector_bytes (width_bytes h.width) h.elements h.store.0 (tree_at (node_at a.nodes.now) (h.count - 1))
-    c.width_bytes.ensures c.split_stream-split.ensures.full_value c.split_stream-split.ensures.rest_value a.prologue.now a.body.now a.epilogue.now
-    c.if-elements-eq0.false c.if-full-eq0.true c.put_only.ensures
+    c.bytes.ensures c.split_stream-split.ensures.full_value c.split_stream-split.ensures.rest_value a.prologue.now a.body.now a.epilogue.now
+    c.if-elements-eq0.false c.if-split-eq0.true c.put_only.ensures
 
 pub put_epilogue-requires : goal.put_epilogue-requires
 put_epilogue-requires c =
@@ -34,5 +34,5 @@ returns c =
     let a = c.args in
     let h = a.header in
     emitted_whole vector_bytes (width_bytes h.width) h.elements h.store.0 (tree_at (node_at a.nodes.now) (h.count - 1))
-    c.width_bytes.ensures c.split_stream-split.ensures.full_value c.split_stream-split.ensures.rest_value a.prologue.now a.body.now a.epilogue.now
+    c.bytes.ensures c.split_stream-split.ensures.full_value c.split_stream-split.ensures.rest_value a.prologue.now a.body.now a.epilogue.now
     c.if-elements-eq0.false (search rules) c.put_prologue.ensures c.put_body.ensures c.put_epilogue.ensures

@@ -1,7 +1,19 @@
 -- The old block goes after the tree's code.
-use Rattle.translating.proofs.SectionLaws.{blocks_written}
+use Rattle.std.proofs.Common.{arith, ◌∙◌}
+use Rattle.translating.proofs.WritingLaws.{row_after}
+use Rattle.translating.proofs.SectionLaws.{tree_room, blocks_written}
 use Rattle.translating.proofs.sections.put_blocks.Goals as goal
 
 pub returns : goal.returns
 returns c =
-    blocks_written c.requires.0 c.requires.1 c.gen_expr-old.ensures c.put_load.ensures
+    let new = c.gen_expr-new.ensures in
+    let old = c.load-old.ensures in
+    let code = rw c.requires.2 at new.written in
+    let room = tree_room c.requires.0 c.requires.1 code in
+    let next = row_after _ _ room.1 old.written in
+    record {
+      same_section = old.same_section ∙ new.same_section;
+      written = rw c.requires.2 (blocks_written c.requires.0 c.requires.1 code old.written);
+      new_register = omega arith;
+      old_register = omega arith;
+    }

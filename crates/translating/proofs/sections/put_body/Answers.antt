@@ -1,17 +1,15 @@
--- The store goes after the tree's code.
+-- The store goes after the tree's code; the writer's section is the one that was lent.
 use native.Mathlib.Omega.{arith}
-use Rattle.translating.proofs.SectionLaws.{tree_room, body_written, no_body}
+use Rattle.translating.proofs.SectionLaws.{body_written, no_body}
 use Rattle.translating.proofs.sections.put_body.Goals as goal
 
 pub returns-then-full-lt-BODY_FROM : goal.returns-then-full-lt-BODY_FROM
 returns-then-full-lt-BODY_FROM c =
     no_body c.requires.0 c.args.section.now _ c.if-full-lt-BODY_FROM.true
 
-pub overflow_sub-new : goal.overflow_sub-new
-overflow_sub-new c =
-    let q = tree_room c.requires.0 c.requires.1 c.gen_expr-last.ensures in
-    omega (arith, q.0)
-
 pub returns : goal.returns
 returns c =
-    body_written c.requires.0 c.requires.1 c.gen_expr-last.ensures c.args.full.0 c.if-full-lt-BODY_FROM.false c.put_store.ensures
+    let new = c.gen_expr-new.ensures in
+    let begun = rw (c.new-writer.ensures.entries, c.new-writer.ensures.first_row) at new.written in
+    let all = body_written c.requires.0 c.requires.1 begun _ new.register c.args.full.0 c.if-full-lt-BODY_FROM.false c.store.ensures.written in
+    grind (arith, all)

@@ -2,6 +2,6 @@
 use Rattle.rules.specs.Vectors.{block_zero}
 use Rattle.translating_rows.proofs.Writer.store.Goals as goal
 
-pub returns : goal.returns
+pub returns-clause-written : goal.returns-clause-written
 unfolding block_zero
-returns c = rw (c.number.ensures, c.moved.ensures) at c.put.ensures
+returns-clause-written c = rw (c.number.ensures, c.moved.ensures) at c.put.ensures.written
