@@ -72,3 +72,5 @@ module _ (rule : ℕ) (head nodes placed_head placed_nodes : List ℕ) where
       → n ≡ padded (length placed_nodes) [] → sheet_given (Err r) h n ≡ placing vector_bytes rule head nodes placed_head placed_nodes
   unfolding placing
   refusal_leaves r h n other e p q = rw (← e, p, q, cleared r other placed_head (head_of made), cleared r other placed_nodes made.nodes)
+
+pub ruleset leaving = (done_accepted, room_leaves, done_leaves, refusal_leaves)

@@ -18,7 +18,7 @@ use Rattle.rules.specs.declared.nodes.Offset.{Offset}
 use Rattle.rules.specs.declared.nodes.Offset.TheVariants.{At, Undefined}
 use Rattle.rules.specs.declared.nodes.NodeRecord.{NodeRecord}
 use Rattle.graph.specs.Links.{left_in, Linked, LinkedAt}
-use Rattle.graph.proofs.LinkLaws.{linked_node}
+use Rattle.graph.proofs.LinkLaws.{linked_node, linked_lower}
 use Rattle.placing_targets.specs.declared.Moves.{Moves}
 use Rattle.placing_targets.specs.Rules.{at}
 use Rattle.placing.specs.Moves.{op_offset, moved}
@@ -69,6 +69,8 @@ module _ (W : ℕ) (sheet : MovedNodes) (nodes : List ℕ) (k : ℕ) (l : Linked
       record_is W m nodes k _ x e
       (p ∙ rw (linked_is (Op o) e).1 (sym (op_offset_lem W m o _ _ _ _ (stands left below) (stands (k - 1) (omega arith)))))
 
+pub ruleset recording = (load_record, splat_record, shift_record, op_below, op_record)
+
 -- ---- the records of a table
 
 pub recorded_none : (W : ℕ) (sheet : MovedNodes) (nodes : List ℕ) → Recorded W sheet nodes 0
@@ -83,6 +85,8 @@ recorded_next W sheet nodes k r inside h e =
     below_more (λ (j : ℕ). get_or (set sheet.records k r) j no_record ≡ record_of W sheet.moves nodes j) k
     (λ j p. get_or-set_other sheet.records k j r no_record (λ q. absurd (omega arith)) ∙ h j p)
     (get_or-set_same sheet.records k r no_record inside ∙ e)
+
+pub ruleset all_recorded = (recorded_none, recorded_next, linked_lower)
 
 -- ---- ready to be written
 

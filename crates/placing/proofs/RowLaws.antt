@@ -3,26 +3,25 @@
 use Prim.Native.Nat.{ℕ, suc, ◌+◌, ◌-◌, ◌*◌, ◌%◌, ◌≤◌, ◌<◌}
 use mathlib.Core.Path.{◌≡◌, refl, sym, ap, ◌∙◌}
 use mathlib.Core.Bool.{Bool, true, false, cond}
-use mathlib.Core.List.{List, [], ◌∷◌, ◌++◌, append-nil, append_assoc}
+use mathlib.Core.List.{List, [], ◌∷◌, ◌++◌, append-nil}
 use native.Mathlib.Nat.{add-zero, add-suc, suc-add}
 use native.Mathlib.Omega.{arith}
 use lib.Dec.{eqb}
 use lib.ListN.{length, set, length-append}
 use lib.Seq.{sets}
 use Rattle.rules.specs.Limits.{row_entries}
-use Rattle.rules.specs.Frames.{load_kind, splat_kind, op_kind, shift_kind}
+use Rattle.rules.specs.Frames.{shift_kind}
 use Rattle.rules.specs.Trees.{Tree, load, shift, tree_at, rows}
 use Rattle.rules.specs.Offsets.{offset}
 use Rattle.rules.specs.Placing.{shifted, toward}
 use Rattle.rules.specs.declared.nodes.LoadAt.{LoadAt}
 use Rattle.rules.specs.declared.nodes.Node.{Node}
-use Rattle.rules.specs.declared.nodes.ShiftBy.{ShiftBy}
 use Rattle.rules.specs.declared.nodes.Node.TheVariants.{Load, Splat, Op, Shift}
 use Rattle.rules.specs.declared.nodes.Offset.{Offset}
 use Rattle.rules.specs.declared.nodes.Offset.TheVariants.{At, Undefined}
 use Rattle.placing_targets.specs.Rules.{at}
 use Rattle.placing.specs.Moves.{goes, meeting_at, moved}
-use Rattle.placing.specs.Writing.{shift_row, Wrote}
+use Rattle.placing.specs.Writing.{row_of, shift_row, Wrote}
 use Rattle.graph.specs.Links.{left_in, LinkedAt}
 use Rattle.graph_offsets.specs.Judging.{offset_in}
 use Rattle.placing.specs.Records.{node_in, moved_offset, moved_rows, Ready}
@@ -64,6 +63,12 @@ rows_goes W (At g) t = sent (offset W t)
         pick true = sym (append-nil (rows t))
         pick false = refl
 
+pub length_row : (n : Node) → length (row_of n) ≡ 3
+length_row (Load a) = refl
+length_row (Splat v) = refl
+length_row (Op o) = refl
+length_row (Shift s) = refl
+
 module _ (W : ℕ) (sheet : MovedNodes) where
   abbrev node : ℕ → Node
   node = node_in sheet.records
@@ -91,54 +96,48 @@ module _ (W : ℕ) (sheet : MovedNodes) where
     linked_is : (n : Node) → node k ≡ n → LinkedAt node left k n
     linked_is n e = linked_node node left k r.linked n e
 
-    -- the shift over a node's own tree goes by the offset in its record
-    own_rows : (to : Offset) (own : List ℕ) → rows (moved W sheet.moves (tree_at node k)) ≡ own
-        → moved_rows W sheet k to ≡ own ++ shift_row (here k) to
-    own_rows to own e = rows_goes W to (moved W sheet.moves (tree_at node k)) ∙ rw (e, r.known k (omega arith))
+    -- the rows of a node's placed tree, before it is sent anywhere
+    abbrev pub own : List ℕ
+    own = rows (moved W sheet.moves (tree_at node k))
 
-    pub load_rows : (a : LoadAt) → node k ≡ Load a → (to : Offset)
-        → moved_rows W sheet k to
-        ≡ (load_kind ∷ a.window ∷ a.address.0 ∷ shift_row (at (a.address.0 % W)) sheet.moves.loads) ++ shift_row (here k) to
+    -- the shift over them goes by the offset in the node's record
+    pub sent_rows : (to : Offset) → moved_rows W sheet k to ≡ own ++ shift_row (here k) to
+    sent_rows to = rows_goes W to (moved W sheet.moves (tree_at node k)) ∙ rw (r.known k (omega arith))
+
+    pub sent_length : (to : Offset) → length (moved_rows W sheet k to) ≡ length own + length (shift_row (here k) to)
+    sent_length to = ap length (sent_rows to) ∙ length-append own (shift_row (here k) to)
+
+    pub load_rows : (a : LoadAt) → node k ≡ Load a → own ≡ row_of (Load a) ++ shift_row (at (a.address.0 % W)) sheet.moves.loads
     unfolding moved
-    load_rows a e to =
-        own_rows to (load_kind ∷ a.window ∷ a.address.0 ∷ shift_row (at (a.address.0 % W)) sheet.moves.loads)
-        (rw (linked_is (Load a) e) (rows_goes W sheet.moves.loads (load a.window a.address.0)))
+    load_rows a e = rw (linked_is (Load a) e) (rows_goes W sheet.moves.loads (load a.window a.address.0))
 
-    pub load_length : (a : LoadAt) → node k ≡ Load a → (to : Offset)
-        → length (moved_rows W sheet k to)
-        ≡ 3 + length (shift_row (at (a.address.0 % W)) sheet.moves.loads) + length (shift_row (here k) to)
-    load_length a e to =
-        ap length (load_rows a e to)
-        ∙ length-append (load_kind ∷ a.window ∷ a.address.0 ∷ shift_row (at (a.address.0 % W)) sheet.moves.loads) (shift_row (here k) to)
-        ∙ omega arith
+    pub load_length : (a : LoadAt) → node k ≡ Load a → length own ≡ 3 + length (shift_row (at (a.address.0 % W)) sheet.moves.loads)
+    load_length a e = ap length (load_rows a e) ∙ length-append (row_of (Load a)) (shift_row (at (a.address.0 % W)) sheet.moves.loads)
 
-    pub splat_rows : (v : ℕ) → node k ≡ Splat v → (to : Offset)
-        → moved_rows W sheet k to ≡ splat_kind ∷ v ∷ 0 ∷ shift_row (here k) to
+    pub splat_rows : (v : ℕ) → node k ≡ Splat v → own ≡ row_of (node k)
     unfolding moved
-    splat_rows v e to = own_rows to (splat_kind ∷ v ∷ 0 ∷ []) (rw (linked_is (Splat v) e))
+    splat_rows v e = rw (linked_is (Splat v) e, e)
 
     pub input_below : (o : ℕ) → node k ≡ Op o → left k < k
     input_below o e = (linked_is (Op o) e).0
 
-    module _ (o : ℕ) (e : node k ≡ Op o) (to meet : Offset) (q : meet ≡ meets k) where
-      abbrev inputs : List ℕ
-      inputs = moved_rows W sheet (left k) meet ++ moved_rows W sheet (k - 1) meet
+    -- the inputs' rows come before an op's own
+    abbrev inputs : (meet : Offset) → List ℕ
+    inputs meet = moved_rows W sheet (left k) meet ++ moved_rows W sheet (k - 1) meet
 
-      pub op_rows : moved_rows W sheet k to ≡ inputs ++ op_kind ∷ o ∷ 0 ∷ shift_row (here k) to
-      unfolding moved
-      op_rows =
-          let below : left k < k = input_below o e in
-          let meets : meet ≡ meeting_at sheet.moves.meeting.0 (moved_offset W sheet.moves node (left k)) (moved_offset W sheet.moves node (k - 1)) =
-          q ∙ rw (r.known (left k) (omega arith), r.known (k - 1) (omega arith)) in
-          own_rows to (inputs ++ op_kind ∷ o ∷ 0 ∷ []) (rw ((linked_is (Op o) e).1, ← meets))
-          ∙ append_assoc inputs (op_kind ∷ o ∷ 0 ∷ []) (shift_row (here k) to)
+    pub op_rows : (o : ℕ) → node k ≡ Op o → (meet : Offset) → meet ≡ meets k → own ≡ inputs meet ++ row_of (node k)
+    unfolding moved
+    op_rows o e meet q =
+        let below : left k < k = input_below o e in
+        let meets : meet ≡ meeting_at sheet.moves.meeting.0 (moved_offset W sheet.moves node (left k)) (moved_offset W sheet.moves node (k - 1)) =
+        q ∙ rw (r.known (left k) (omega arith), r.known (k - 1) (omega arith)) in
+        rw ((linked_is (Op o) e).1, ← meets, e)
 
-      pub op_length : length (moved_rows W sheet k to)
-          ≡ length (moved_rows W sheet (left k) meet) + length (moved_rows W sheet (k - 1) meet) + (3 + length (shift_row (here k) to))
-      op_length =
-          ap length op_rows
-          ∙ length-append inputs (op_kind ∷ o ∷ 0 ∷ shift_row (here k) to)
-          ∙ omega (arith, length-append (moved_rows W sheet (left k) meet) (moved_rows W sheet (k - 1) meet))
+    pub op_length : (o : ℕ) → node k ≡ Op o → (meet : Offset) → meet ≡ meets k
+        → length own ≡ length (moved_rows W sheet (left k) meet) + length (moved_rows W sheet (k - 1) meet) + 3
+    op_length o e meet q =
+        ap length (op_rows o e meet q)
+        ∙ length-append (inputs meet) (row_of (node k))
+        ∙ omega (arith, length-append (moved_rows W sheet (left k) meet) (moved_rows W sheet (k - 1) meet), length_row (node k))
 
-    pub never_shift : (s : ShiftBy) → node k ≡ Shift s → ⊥
-    never_shift s e = rw e at (r.bare k (omega arith))
+pub ruleset writing = (wrote_on, ready_lower, sent_rows, sent_length, load_rows, load_length, splat_rows, input_below, op_rows, op_length, length_row)

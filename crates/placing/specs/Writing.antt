@@ -2,7 +2,9 @@
 use Rattle.std.specs.Prelude.{ℕ, ◌+◌, ◌*◌, ◌≤◌, ◌≡◌, cond, List, [], ◌∷◌, eqb, length}
 use Rattle.std.proofs.lemmas.List.Edits.{sets}
 use Rattle.rules.specs.Limits.{nodes_most, row_entries}
-use Rattle.rules.specs.Frames.{shift_kind}
+use Rattle.rules.specs.Frames.{load_kind, splat_kind, op_kind, shift_kind}
+use Rattle.rules.specs.declared.nodes.Node.{Node}
+use Rattle.rules.specs.declared.nodes.Node.TheVariants.{Load, Splat, Op, Shift}
 use Rattle.rules.specs.declared.nodes.Offset.{Offset}
 use Rattle.rules.specs.declared.nodes.Offset.TheVariants.{At, Undefined}
 use Rattle.rules.specs.declared.sheet.Row.{Row}
@@ -14,9 +16,15 @@ shift_row Undefined to = []
 shift_row (At a) Undefined = []
 shift_row (At a) (At g) = cond (eqb a.0 g.0) [] (shift_kind ∷ a.0 ∷ g.0 ∷ [])
 
--- a row's entries
-abbrev pub row_of : Row → List ℕ
-row_of row = row.kind ∷ row.x ∷ row.y ∷ []
+-- a row's entries, and those of the row that a node is read from
+abbrev pub entries_of : Row → List ℕ
+entries_of row = row.kind ∷ row.x ∷ row.y ∷ []
+
+abbrev pub row_of : Node → List ℕ
+row_of (Load a) = load_kind ∷ a.window ∷ a.address.0 ∷ []
+row_of (Splat v) = splat_kind ∷ v ∷ 0 ∷ []
+row_of (Op o) = op_kind ∷ o ∷ 0 ∷ []
+row_of (Shift s) = shift_kind ∷ s.«from».0 ∷ s.to.0 ∷ []
 
 -- so many entries fit into a table of 64 rows from the next row on
 abbrev pub HasRoom : Writer → (made : List ℕ) → Type 0

@@ -13,6 +13,7 @@ ghost use Rattle.placing.specs.Handing.{sheet_given};
 use rules::answers::Refusal;
 
 // Places a bare sheet by a rule. ROOM leaves the lent tables as they are, every other refusal leaves them all zero.
+#[tactic(auto, using(crate::proofs::AnswerLaws::leaving))]
 pub fn place(
     rule: u64,
     head: &[u64],

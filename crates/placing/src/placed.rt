@@ -32,17 +32,15 @@ fn put_rows(rule: Rule, head: Header, nodes: &[u64], placed_nodes: &mut [u64]) -
 }
 
 // The header's fields as they were, and the number of nodes.
+#[tactic(auto, using(crate::proofs::HandingLaws::head_handed))]
 fn put_head(head: &[u64], count: u8, placed_head: &mut [u64])
     requires { head_entries ≤ length placed_head.old }
     ensures { placed_head.new ≡ padded (length placed_head.old) (head_with head.now count) }
 {
-    let d = tables::entry(head, HEAD_D);
-    let n = tables::entry(head, HEAD_N);
-    let s = tables::entry(head, HEAD_S);
     tables::clear(placed_head);
-    tables::put(placed_head, HEAD_D, d);
-    tables::put(placed_head, HEAD_N, n);
-    tables::put(placed_head, HEAD_S, s);
+    tables::put(placed_head, HEAD_D, tables::entry(head, HEAD_D));
+    tables::put(placed_head, HEAD_N, tables::entry(head, HEAD_N));
+    tables::put(placed_head, HEAD_S, tables::entry(head, HEAD_S));
     tables::put(placed_head, HEAD_COUNT, count as u64);
 }
 

@@ -9,17 +9,18 @@ ghost use Rattle.placing.specs.Records.{record_of, Recorded};
 
 use graph_offsets::{agree, join};
 use placing_targets::Moves;
-use rules::limits::V;
+use rules::limits::{NODES, V};
 use rules::nodes::{Node, NodeRecord, Offset};
 use rules::units::ByteOffset;
 
-const NODES: usize = 64;
+// Places for the records of 64 nodes.
+const ROWS: usize = NODES as usize;
 
 // The nodes' records, where each op's left input is, and what the rule moves.
 #[derive(Drop)]
 pub(crate) struct MovedNodes {
-    pub(crate) records: [NodeRecord; NODES],
-    pub(crate) lefts: [u8; NODES],
+    pub(crate) records: [NodeRecord; ROWS],
+    pub(crate) lefts: [u8; ROWS],
     pub(crate) moves: Moves,
 }
 
@@ -45,6 +46,7 @@ fn op_offset(meeting: ByteOffset, left: Offset, right: Offset) -> Offset
 
 impl MovedNodes {
     // The record of node k, from those before it.
+    #[tactic(auto, using(crate::proofs::RecordLaws::recording))]
     fn record_at(&self, nodes: &[u64], k: u8) -> NodeRecord
         requires k_lt_nodes_most { k < nodes_most }
         requires linked { Linked (node_at nodes.now) (left_in self.now.lefts) (k + 1) }
@@ -67,6 +69,7 @@ impl MovedNodes {
     }
 
     // Of the first so many nodes of a table.
+    #[tactic(auto, using(crate::proofs::RecordLaws::all_recorded))]
     pub(crate) fn new(nodes: &[u64], moves: Moves, count: u8) -> Self
         requires count_le_nodes_most { count ≤ nodes_most }
         requires linked { Linked (node_at nodes.now) (left_in (lefts (node_at nodes.now) nodes_most)) count }
@@ -79,7 +82,7 @@ impl MovedNodes {
             offset: Offset::Undefined,
         };
         let mut made = MovedNodes {
-            records: [none; NODES],
+            records: [none; ROWS],
             lefts: graph::left_inputs(nodes),
             moves,
         };

@@ -1,13 +1,13 @@
 // The rows of the placed tree, written in postfix order by recursion on node numbers: a node's inputs come before it.
-ghost use Rattle.std.specs.Prelude.{◌≡◌, ◌+◌, ◌++◌};
+ghost use Rattle.std.specs.Prelude.{◌≡◌, ◌+◌};
 ghost use Rattle.rules.specs.Limits.{vector_bytes};
-ghost use Rattle.placing.specs.Writing.{row_of, shift_row, HasRoom, Wrote};
+ghost use Rattle.placing.specs.Writing.{entries_of, row_of, shift_row, HasRoom, Wrote};
 ghost use Rattle.placing.specs.Records.{Ready, moved_rows};
 
 use crate::records::{MovedNodes, meeting_at};
 use rules::kinds::FrameKind;
 use rules::limits::V;
-use rules::nodes::{Node, NodeRecord, Offset};
+use rules::nodes::{Node, NodeRecord, Offset, ShiftBy};
 use rules::sheet::Row;
 use rules::units::ByteOffset;
 
@@ -27,11 +27,12 @@ impl<'a> Writer<'a> {
         Writer { table, row: 0 }
     }
 
-    fn put(&mut self, row: Row)
-        requires { HasRoom self.old (row_of row) }
-        ensures { Wrote self.old (row_of row) self.new }
+    // A node's row.
+    fn put(&mut self, node: Node)
+        requires { HasRoom self.old (row_of node) }
+        ensures { Wrote self.old (row_of node) self.new }
     {
-        tables::put_row(self.table, self.row, row);
+        tables::put_row(self.table, self.row, row_of(node));
         self.row += 1;
     }
 
@@ -40,29 +41,34 @@ impl<'a> Writer<'a> {
         requires { HasRoom self.old (shift_row here to) }
         ensures { Wrote self.old (shift_row here to) self.new }
     {
-        let (Offset::At(a), Offset::At(g)) = (here, to) else {
+        let (Offset::At(from), Offset::At(to)) = (here, to) else {
             return;
         };
-        if a != g {
-            self.put(Row {
-                kind: FrameKind::Shift.number(),
-                x: a.0,
-                y: g.0,
-            });
+        if from != to {
+            self.put(Node::Shift(ShiftBy { from, to }));
         }
     }
+}
 
-    // A node's row, and then a shift if it has to go elsewhere.
-    fn node(&mut self, node: Row, here: Offset, to: Offset)
-        requires { HasRoom self.old (row_of node ++ shift_row here to) }
-        ensures { Wrote self.old (row_of node ++ shift_row here to) self.new }
-    {
-        self.put(node);
-        self.shift(here, to);
+// The row that a node is read from.
+fn row_of(node: Node) -> Row
+    ensures { entries_of result ≡ row_of node }
+{
+    let (kind, x, y) = match node {
+        Node::Load(load) => (FrameKind::Load, load.window, load.address.0),
+        Node::Splat(value) => (FrameKind::Splat, value, 0),
+        Node::Op(operation) => (FrameKind::Op, operation, 0),
+        Node::Shift(shift) => (FrameKind::Shift, shift.from.0, shift.to.0),
+    };
+    Row {
+        kind: kind.number(),
+        x,
+        y,
     }
 }
 
 // The rows of node k's placed tree, and then a shift if it has to go elsewhere.
+#[tactic(auto, using(crate::proofs::RowLaws::writing))]
 pub(crate) fn write(sheet: &MovedNodes, k: u8, to: Offset, rows: &mut Writer)
     requires ready { Ready vector_bytes sheet.now (k + 1) }
     requires room { HasRoom rows.old (moved_rows vector_bytes sheet.now k to) }
@@ -72,24 +78,12 @@ pub(crate) fn write(sheet: &MovedNodes, k: u8, to: Offset, rows: &mut Writer)
     let NodeRecord { node, offset } = sheet.records[at];
     match node {
         Node::Load(load) => {
-            let own = Row {
-                kind: FrameKind::Load.number(),
-                x: load.window,
-                y: load.address.0,
-            };
             let stands = Offset::At(ByteOffset(load.address.0 % V));
-            rows.node(own, stands, sheet.moves.loads);
-            rows.shift(offset, to);
+            rows.put(node);
+            rows.shift(stands, sheet.moves.loads);
         }
-        Node::Splat(value) => {
-            let own = Row {
-                kind: FrameKind::Splat.number(),
-                x: value,
-                y: 0,
-            };
-            rows.node(own, offset, to);
-        }
-        Node::Op(operation) => {
+        Node::Splat(_) => rows.put(node),
+        Node::Op(_) => {
             let left = sheet.lefts[at];
             let right = k - 1;
             let x = sheet.records[left as usize].offset;
@@ -97,14 +91,10 @@ pub(crate) fn write(sheet: &MovedNodes, k: u8, to: Offset, rows: &mut Writer)
             let meet = meeting_at(sheet.moves.meeting, x, y);
             write(sheet, left, meet, rows);
             write(sheet, right, meet, rows);
-            let own = Row {
-                kind: FrameKind::Op.number(),
-                x: operation,
-                y: 0,
-            };
-            rows.node(own, offset, to);
+            rows.put(node);
         }
         // A bare sheet has none.
         Node::Shift(_) => unreachable!(),
     }
+    rows.shift(offset, to);
 }

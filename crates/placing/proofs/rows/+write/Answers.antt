@@ -1,81 +1,84 @@
 -- A node's rows by its kind: a load's own row with the shift that its rule asks, a splat's, and an op's after the rows of its two
--- inputs.
-use Prim.Native.Nat.{◌+◌, ◌-◌}
+-- inputs. Then a shift, if the node has to go elsewhere.
+use Prim.Native.Nat.{◌+◌}
 use mathlib.Core.Path.{ap}
 use native.Mathlib.Omega.{arith}
 use lib.ListN.{length}
 use Rattle.rules.specs.Limits.{vector_bytes}
-use Rattle.graph.specs.Links.{left_in}
-use Rattle.placing.proofs.RowLaws.{wrote_on, ready_lower, load_rows, load_length, splat_rows, input_below, op_rows, op_length}
+use Rattle.placing.specs.Writing.{Wrote}
+use Rattle.placing.proofs.RowLaws.{wrote_on, ready_lower, length_row, own, sent_rows, sent_length, load_rows, load_length, splat_rows, input_below, op_rows, op_length}
 use Rattle.placing.proofs.rows.+write.Goals as goal
+use Rattle.placing.proofs.rows.+write.Goals.{in-Load, in-Splat, in-Op}
 
-pub node-requires : goal.node-requires
-node-requires t c =
-    let a = c.args in
-    omega (arith, load_length vector_bytes a.sheet.now a.k c.requires.ready c.in-Load.load c.in-Load.is a.to, c.requires.room)
-
-pub shift-requires : goal.shift-requires
-shift-requires t c =
-    let a = c.args in
-    omega (arith, load_length vector_bytes a.sheet.now a.k c.requires.ready c.in-Load.load c.in-Load.is a.to, c.requires.room, c.node.ensures.free)
-
-pub node-requires-in-Splat : goal.node-requires-in-Splat
-node-requires-in-Splat t c =
-    let a = c.args in
-    omega (arith, ap length (splat_rows vector_bytes a.sheet.now a.k c.requires.ready c.in-Splat.value c.in-Splat.is a.to), c.requires.room)
-
-pub overflow_sub-right : goal.overflow_sub-right
-overflow_sub-right t c =
-    let a = c.args in
-    omega (arith, input_below vector_bytes a.sheet.now a.k c.requires.ready c.in-Op.operation c.in-Op.is)
+pub put-requires : goal.put-requires
+put-requires t c =
+    let s = c.args.sheet.now in
+    omega (arith, c.requires.room, sent_length vector_bytes s c.args.k c.requires.ready c.args.to, load_length vector_bytes s c.args.k c.requires.ready _ c.in-Load.is)
 
 pub bounds-sheet-left : goal.bounds-sheet-left
 bounds-sheet-left t c =
-    let a = c.args in
-    omega (arith, input_below vector_bytes a.sheet.now a.k c.requires.ready c.in-Op.operation c.in-Op.is, c.requires.ready.most)
+    omega (arith, input_below vector_bytes c.args.sheet.now c.args.k c.requires.ready _ c.in-Op.is, c.requires.ready.most)
 
 pub write-requires : goal.write-requires
 write-requires t c =
     let a = c.args in
+    let s = a.sheet.now in
     let ready = c.requires.ready in
-    let meet = c.meeting_at-meet in
-    let left = left_in a.sheet.now.lefts a.k in
-    let low = input_below vector_bytes a.sheet.now a.k ready c.in-Op.operation c.in-Op.is in
-    let room = op_length vector_bytes a.sheet.now a.k ready c.in-Op.operation c.in-Op.is a.to meet.result meet.ensures in
-    (omega arith, (ready_lower vector_bytes a.sheet.now (a.k + 1) (left + 1) (omega arith) ready, omega (arith, c.requires.room)))
+    let low = input_below vector_bytes s a.k ready _ c.in-Op.is in
+    let all = sent_length vector_bytes s a.k ready a.to in
+    let parts = op_length vector_bytes s a.k ready _ c.in-Op.is _ c.meeting_at-meet.ensures in
+    (omega arith, (ready_lower vector_bytes s (a.k + 1) _ (omega arith) ready, omega (arith, c.requires.room)))
 
 pub write-requires-in-Op : goal.write-requires-in-Op
 write-requires-in-Op t c =
     let a = c.args in
+    let s = a.sheet.now in
     let ready = c.requires.ready in
-    let meet = c.meeting_at-meet in
-    let low = input_below vector_bytes a.sheet.now a.k ready c.in-Op.operation c.in-Op.is in
-    let room = op_length vector_bytes a.sheet.now a.k ready c.in-Op.operation c.in-Op.is a.to meet.result meet.ensures in
+    let low = input_below vector_bytes s a.k ready _ c.in-Op.is in
+    let all = sent_length vector_bytes s a.k ready a.to in
+    let parts = op_length vector_bytes s a.k ready _ c.in-Op.is _ c.meeting_at-meet.ensures in
     let middle = c.write.ensures.free in
-    (omega arith, (ready_lower vector_bytes a.sheet.now (a.k + 1) (a.k - 1 + 1) (omega arith) ready, omega (arith, c.requires.room)))
+    (omega arith, (ready_lower vector_bytes s (a.k + 1) _ (omega arith) ready, omega (arith, c.requires.room)))
 
-pub node-requires-in-Op : goal.node-requires-in-Op
-node-requires-in-Op t c =
+pub put-requires-in-Op : goal.put-requires-in-Op
+put-requires-in-Op t c =
     let a = c.args in
-    let meet = c.meeting_at-meet in
-    let room = op_length vector_bytes a.sheet.now a.k c.requires.ready c.in-Op.operation c.in-Op.is a.to meet.result meet.ensures in
-    omega (arith, c.requires.room, c.write.ensures.free, c.write-in-Op.ensures.free)
+    let s = a.sheet.now in
+    let all = sent_length vector_bytes s a.k c.requires.ready a.to in
+    let parts = op_length vector_bytes s a.k c.requires.ready _ c.in-Op.is _ c.meeting_at-meet.ensures in
+    omega (arith, c.requires.room, length_row, c.write.ensures.free, c.write-in-Op.ensures.free)
 
-pub returns-in-Load : goal.returns-in-Load
-returns-in-Load t c =
-    let a = c.args in
-    rw (load_rows vector_bytes a.sheet.now a.k c.requires.ready c.in-Load.load c.in-Load.is a.to)
-    (wrote_on (rw c.number.ensures at c.node.ensures) c.shift.ensures)
+pub shift-requires-2 : goal.shift-requires-2
+shift-requires-2 t c =
+    let s = c.args.sheet.now in
+    let k = c.args.k in
+    let ready = c.requires.ready in
+    let room = c.requires.room in
+    let all = sent_length vector_bytes s k ready c.args.to in
+    elim c.match-node.branch [
+      | in-Load w ↦
+          rw w.rows-is
+          (omega (arith, room, w.put.ensures.free, w.shift.ensures.free, load_length vector_bytes s k ready _ w.in-Load.is))
+      | in-Splat w ↦
+          rw w.rows-is
+          (omega (arith, room, w.put-in-Splat.ensures.free, ap length (splat_rows vector_bytes s k ready _ w.in-Splat.is)))
+      | in-Op w ↦
+          let parts = op_length vector_bytes s k ready _ w.in-Op.is _ w.meeting_at-meet.ensures in
+          rw w.rows-is
+          (omega (arith, room, length_row, w.write.ensures.free, w.write-in-Op.ensures.free, w.put-in-Op.ensures.free))
+    ]
 
-pub returns-in-Splat : goal.returns-in-Splat
-returns-in-Splat t c =
+pub returns : goal.returns
+returns t c =
     let a = c.args in
-    rw (splat_rows vector_bytes a.sheet.now a.k c.requires.ready c.in-Splat.value c.in-Splat.is a.to)
-    (rw c.number-in-Splat.ensures at c.node-in-Splat.ensures)
-
-pub returns-in-Op : goal.returns-in-Op
-returns-in-Op t c =
-    let a = c.args in
-    let meet = c.meeting_at-meet in
-    rw (op_rows vector_bytes a.sheet.now a.k c.requires.ready c.in-Op.operation c.in-Op.is a.to meet.result meet.ensures)
-    (wrote_on (wrote_on c.write.ensures c.write-in-Op.ensures) (rw c.number-in-Op.ensures at c.node-in-Op.ensures))
+    let s = a.sheet.now in
+    let ready = c.requires.ready in
+    let before : Wrote a.rows.now (own vector_bytes s a.k ready) c.match-node.rows =
+    elim c.match-node.branch [
+      | in-Load w ↦ rw (w.rows-is, load_rows vector_bytes s a.k ready _ w.in-Load.is) (wrote_on w.put.ensures w.shift.ensures)
+      | in-Splat w ↦ rw (w.rows-is, splat_rows vector_bytes s a.k ready _ w.in-Splat.is) w.put-in-Splat.ensures
+      | in-Op w ↦
+          rw (w.rows-is, op_rows vector_bytes s a.k ready _ w.in-Op.is _ w.meeting_at-meet.ensures)
+          (wrote_on (wrote_on w.write.ensures w.write-in-Op.ensures) w.put-in-Op.ensures)
+    ] in
+    rw (sent_rows vector_bytes s a.k ready a.to) (wrote_on before c.shift-2.ensures)
