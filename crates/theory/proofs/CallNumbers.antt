@@ -71,12 +71,13 @@ module _ (numbers : List ℕ) (g : Graph) where
   form_gives : (W : ℕ) → member numbers RANGE ≡ true → member numbers SHAPE ≡ true → Gives numbers (form_check W g)
   unfolding form_check
   form_gives W range shape =
-      first_gives numbers _
-      (refused_gives numbers _ RANGE _ range,
-      give_both numbers (each (row_check W g) (min g.N nodes_most)) _
-      (each_gives numbers (row_check W g) (min g.N nodes_most)
-      (λ k. first_gives numbers _ (refused_gives numbers _ RANGE _ range, (refused_gives numbers _ SHAPE _ shape, tt))))
-      (refused_gives numbers _ SHAPE _ shape, tt))
+      first_gives numbers _ (
+        refused_gives numbers _ RANGE _ range,
+        give_both numbers (each (row_check W g) (min g.N nodes_most)) _
+            (each_gives numbers (row_check W g) (min g.N nodes_most)
+            (λ k. first_gives numbers _ (refused_gives numbers _ RANGE _ range, (refused_gives numbers _ SHAPE _ shape, tt))))
+            (refused_gives numbers _ SHAPE _ shape, tt),
+      )
 
   bare_gives : member numbers BARE ≡ true → Gives numbers (bare_check g)
   unfolding bare_check
@@ -133,9 +134,10 @@ pub placing_gives : (W rule : ℕ) (head nodes placed_head placed_nodes : List �
     → Gives placing_numbers (place_answer W rule head nodes placed_head placed_nodes)
 placing_gives W rule head nodes placed_head placed_nodes =
     let g : Graph = graph_of head nodes in
-    first_gives _ _
-    (refused_gives _ _ ROOM 0 refl,
-    (refused_gives _ _ RANGE 0 refl, (form_gives _ g W refl refl, (bare_gives _ g refl, (align_gives _ g refl, tt)))))
+    first_gives _ _ (
+      refused_gives _ _ ROOM 0 refl,
+      (refused_gives _ _ RANGE 0 refl, (form_gives _ g W refl refl, (bare_gives _ g refl, (align_gives _ g refl, tt)))),
+    )
 
 abbrev pub looping_numbers : List ℕ
 looping_numbers = ROOM ∷ RANGE ∷ SHAPE ∷ WINDOW ∷ ALIGN ∷ BOUNDS ∷ []
@@ -145,9 +147,10 @@ pub looping_gives : (W : ℕ) (head nodes : List ℕ) (work_len table_len : ℕ)
 unfolding checking
 looping_gives W head nodes w t =
     let g : Graph = graph_of head nodes in
-    first_gives _ _
-    (first_gives _ _ (refused_gives _ _ ROOM 0 refl, (form_gives _ g W refl refl, tt)),
-    (window_gives _ W w t refl, (align_gives _ g refl, (bounds_gives _ g w t refl, tt))))
+    first_gives _ _ (
+      first_gives _ _ (refused_gives _ _ ROOM 0 refl, (form_gives _ g W refl refl, tt)),
+      (window_gives _ W w t refl, (align_gives _ g refl, (bounds_gives _ g w t refl, tt))),
+    )
 
 abbrev pub translating_numbers : List ℕ
 translating_numbers = ROOM ∷ RANGE ∷ SHAPE ∷ WINDOW ∷ ALIGN ∷ BOUNDS ∷ CARRY ∷ OFFSET ∷ LONG ∷ []
@@ -157,13 +160,22 @@ pub translating_gives : (W : ℕ) (head nodes : List ℕ) (work_len table_len : 
 unfolding long_check
 translating_gives W head nodes w t prologue body epilogue =
     let g : Graph = graph_of head nodes in
-    first_gives _ _
-    (refused_gives _ _ ROOM 0 refl,
-    (form_gives _ g W refl refl,
-    (window_gives _ W w t refl,
-    (align_gives _ g refl,
-    (bounds_gives _ g w t refl,
-    (carry_gives _ g refl, (offset_gives _ g W refl, (refused_gives _ _ LONG 0 refl, tt))))))))
+    first_gives _ _ (
+      refused_gives _ _ ROOM 0 refl,
+      (
+        form_gives _ g W refl refl,
+        (
+          window_gives _ W w t refl,
+          (
+            align_gives _ g refl,
+            (
+              bounds_gives _ g w t refl,
+              (carry_gives _ g refl, (offset_gives _ g W refl, (refused_gives _ _ LONG 0 refl, tt))),
+            ),
+          ),
+        ),
+      ),
+    )
 
 abbrev pub planning_numbers : List ℕ
 planning_numbers = ROOM ∷ RANGE ∷ SHAPE ∷ BARE ∷ WINDOW ∷ ALIGN ∷ BOUNDS ∷ CARRY ∷ OFFSET ∷ LONG ∷ []
@@ -173,14 +185,25 @@ pub planning_gives : (W rule : ℕ) (head nodes : List ℕ) (work_len table_len 
 unfolding long_check
 planning_gives W rule head nodes w t prologue body epilogue =
     let g : Graph = graph_of head nodes in
-    first_gives _ _
-    (refused_gives _ _ ROOM 0 refl,
-    (refused_gives _ _ RANGE 0 refl,
-    (form_gives _ g W refl refl,
-    (bare_gives _ g refl,
-    (window_gives _ W w t refl,
-    (align_gives _ g refl,
-    (bounds_gives _ g w t refl, (carry_gives _ g refl, (offset_gives _ _ W refl, (refused_gives _ _ LONG 0 refl, tt))))))))))
+    first_gives _ _ (
+      refused_gives _ _ ROOM 0 refl,
+      (
+        refused_gives _ _ RANGE 0 refl,
+        (
+          form_gives _ g W refl refl,
+          (
+            bare_gives _ g refl,
+            (
+              window_gives _ W w t refl,
+              (
+                align_gives _ g refl,
+                (bounds_gives _ g w t refl, (carry_gives _ g refl, (offset_gives _ _ W refl, (refused_gives _ _ LONG 0 refl, tt)))),
+              ),
+            ),
+          ),
+        ),
+      ),
+    )
 
 -- ---- reading
 
