@@ -3,3 +3,4 @@ pub mod InputLaws
 pub mod RowChecks
 pub mod HeaderLaws
 pub mod Outcomes
+pub mod LinkedLaws

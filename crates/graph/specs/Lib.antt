@@ -1,3 +1,5 @@
 pub mod Links
 pub mod Headers
 pub mod Forms
+pub mod NodeTables
+pub mod Linking

@@ -4,6 +4,7 @@
 
 mod form;
 mod headers;
+mod linked;
 mod links;
 
 ghost use Rattle.std.specs.Prelude.{◌≡◌};
@@ -12,7 +13,8 @@ ghost use Rattle.rules.specs.Answers.{of_result};
 ghost use Rattle.rules.specs.Calls.{checking};
 
 pub use headers::{Header, header_of};
-pub use links::left_inputs;
+pub use linked::{LinkedNode, Links};
+pub use links::{ROWS, left_inputs};
 use rules::answers::Refusal;
 use rules::limits::{HEAD_ENTRIES, NODE_ENTRIES};
 

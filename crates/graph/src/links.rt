@@ -8,8 +8,8 @@ ghost use Rattle.graph.specs.Links.{lefts};
 use rules::limits::NODES;
 use std::marker::Model;
 
-// Places for the numbers of 64 nodes.
-const ROWS: usize = NODES as usize;
+// Places for what is known of each of 64 nodes.
+pub const ROWS: usize = NODES as usize;
 
 // The numbers of the nodes that wait: the first so many of the places, the last number first in the definitions.
 #[derive(Drop)]

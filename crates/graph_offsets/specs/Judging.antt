@@ -2,10 +2,10 @@
 use Rattle.std.specs.Prelude.{ℕ, ◌<◌, ◌≡◌, Bool, true, false, not, List, ◌++◌, get_or, Result, Ok, Err}
 use Rattle.rules.specs.Limits.{vector_bytes}
 use Rattle.rules.specs.Answers.{Answer, OFFSET, done, at, refuse_if, first, each, of_refusal}
-use Rattle.rules.specs.Trees.{Tree, bytes, node_at, tree_at, tree_of}
+use Rattle.rules.specs.Trees.{Tree, bytes, tree_of}
 use Rattle.rules.specs.Offsets.{offset, rule_kept}
 use Rattle.rules.specs.Checks.{line}
-use Rattle.rules.specs.declared.nodes.Node.{Node}
+use Rattle.graph.specs.Linking.{tree}
 use Rattle.rules.specs.declared.nodes.Node.TheVariants.{Load}
 use Rattle.rules.specs.declared.nodes.Offset.{Offset}
 use Rattle.rules.specs.declared.nodes.Offset.TheVariants.{At}
@@ -28,13 +28,13 @@ no_record = record { node = Load (record { window = 0; address = bytes 0 }); off
 abbrev pub offset_in : List NodeRecord → ℕ → Offset
 offset_in records k = (get_or records k no_record).offset
 
--- the records of the first n nodes hold their offsets
-unfoldable pub Known : (node : ℕ → Node) (n : ℕ) → List NodeRecord → Type 0
-Known node n records = (k : ℕ) → k < n → offset_in records k ≡ offset vector_bytes (tree_at node k)
+-- the offsets of the first n nodes; past the last stands that of no record
+unfoldable pub Known : (nodes : List ℕ) (n : ℕ) → List Offset → Type 0
+Known nodes n offsets = (k : ℕ) → k < n → get_or offsets k no_record.offset ≡ offset vector_bytes (tree nodes k)
 
 -- row k's check, of which a graph's offset_row is made
 abbrev pub rule_check : List ℕ → ℕ → Answer
-rule_check nodes k = refuse_if (not (rule_kept vector_bytes (tree_at (node_at nodes) k))) (at OFFSET (line k))
+rule_check nodes k = refuse_if (not (rule_kept vector_bytes (tree nodes k))) (at OFFSET (line k))
 
 -- the first rule that is broken, whatever comes after it; or every rule is kept, and the root's offset
 abbrev pub NodesFound : (nodes : List ℕ) (n : ℕ) → Result Offset Refusal → Type 0

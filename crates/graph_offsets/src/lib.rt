@@ -13,6 +13,7 @@ ghost use Rattle.rules.specs.Calls.{offset_checking};
 ghost use Rattle.theory.proofs.FormLaws.{Formed};
 
 use crate::nodes::judge_nodes;
+use graph::Links;
 pub use pairs::{agree, join};
 use rules::answers::Refusal;
 use rules::limits::{HEADER_LINE, V};
@@ -24,9 +25,8 @@ fn judge(head: &[u64], nodes: &[u64]) -> Result<(), Refusal>
     requires { Formed vector_bytes (graph_of head.now nodes.now) }
     ensures { of_result result ≡ offset_check vector_bytes (graph_of head.now nodes.now) }
 {
-    let header = graph::header_of(head);
-    let store = Offset::At(ByteOffset(header.store.0 % V));
-    let root = judge_nodes(nodes, header.count)?;
+    let store = Offset::At(ByteOffset(graph::header_of(head).store.0 % V));
+    let root = judge_nodes(&Links::new(head, nodes))?;
     if !agree(store, root) {
         return Err(Refusal::Offset(HEADER_LINE));
     }

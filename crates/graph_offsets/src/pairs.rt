@@ -9,12 +9,9 @@ use rules::units::ByteOffset;
 pub fn agree(a: Offset, b: Offset) -> bool
     ensures { result ≡ agree a b }
 {
-    match a {
-        Offset::Undefined => true,
-        Offset::At(x) => match b {
-            Offset::Undefined => true,
-            Offset::At(y) => x.0 == y.0,
-        },
+    match (a, b) {
+        (Offset::At(x), Offset::At(y)) => x == y,
+        _ => true,
     }
 }
 
@@ -24,7 +21,7 @@ pub fn join(a: Offset, b: Offset) -> Offset
 {
     match a {
         Offset::Undefined => b,
-        Offset::At(x) => Offset::At(x),
+        Offset::At(_) => a,
     }
 }
 
@@ -32,8 +29,5 @@ pub fn join(a: Offset, b: Offset) -> Offset
 pub(crate) fn is_at(a: Offset, from: ByteOffset) -> bool
     ensures { result ≡ is_at a from.0 }
 {
-    match a {
-        Offset::Undefined => false,
-        Offset::At(x) => x.0 == from.0,
-    }
+    matches!(a, Offset::At(x) if x == from)
 }

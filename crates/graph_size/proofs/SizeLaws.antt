@@ -1,56 +1,49 @@
 -- A sum of capped sizes, capped, is the sum of the sizes, capped: so G is counted up to its cap from the inputs' counts.
-use Prim.Native.Nat.{ℕ, suc, ◌+◌, ◌*◌, ◌-◌, ◌≤◌, ◌<◌}
-use native.Mathlib.Omega.{arith}
-use mathlib.Core.Path.{◌≡◌, refl, sym, ap, ◌∙◌}
-use mathlib.Core.List.{List}
-use lib.ListN.{get_or}
-use Rattle.rules.specs.Limits.{vector_bytes, nodes_most, long_most}
+use Rattle.std.proofs.Common.{◌≡◌, ℕ, suc, ◌+◌, ◌*◌, ◌-◌, ◌≤◌, List, sym, ap, ◌∙◌, get_or, arith, min}
+use Rattle.rules.specs.Limits.{vector_bytes, long_most}
 use Rattle.rules.specs.Answers.{Answer, DONE, done, of_refusal}
-use Rattle.rules.specs.Trees.{node_at}
+use Rattle.rules.specs.Trees.{Tree, load, splat, op, shift}
 use Rattle.rules.specs.Code.{G}
-use Rattle.rules.specs.Tables.{Graph, graph_of}
+use Rattle.rules.specs.Tables.{graph_of}
 use Rattle.rules.specs.Calls.{checking, graph_tree}
 use Rattle.rules.specs.declared.answers.Refusal.{Refusal}
-use Rattle.rules.specs.declared.nodes.LoadAt.{LoadAt}
-use Rattle.rules.specs.declared.nodes.ShiftBy.{ShiftBy}
-use Rattle.rules.specs.declared.nodes.Node.TheVariants as Node
 use Rattle.theory.proofs.AnswerLaws.{refusal_not_done}
-use Rattle.theory.proofs.FormLaws.{Formed}
 use Rattle.theory.proofs.Firsts.{checked_formed}
-use Rattle.graph.specs.Headers.{header_of}
-use Rattle.graph.specs.Links.{lefts}
+use Rattle.graph.specs.Linking.{tree}
+use Rattle.graph.proofs.InputLaws.{root_tree}
+use Rattle.graph.proofs.LinkedLaws.{some_counted}
 use Rattle.graph_size.specs.Sizing.{capped, size_of}
-use Rattle.graph.proofs.HeaderLaws.{header_graph}
-use Rattle.graph.proofs.InputLaws.{tree, LinkedTo, load_tree, splat_tree, op_tree, shift_tree, some_node, linked_root, root_tree}
 
 pub capped_sum : (a b : ℕ) → capped (capped a + capped b + 1) ≡ capped (a + b + 1)
 unfolding capped
 capped_sum a b = omega arith
 
-pub capped_most : (a b : ℕ) → a ≡ capped b → a ≤ long_most + 1
+pub capped_most : (size a : ℕ) → size ≡ capped a → size ≤ long_most + 1
 unfolding capped
-capped_most a b e = omega arith
+capped_most size a e = omega arith
 
-module _ (nodes left : List ℕ) (k : ℕ) (to : LinkedTo nodes left (k + 1)) where
-  pub load_size : (a : LoadAt) → node_at nodes k ≡ Node.Load a → 1 ≡ capped (G (tree nodes left k))
-  unfolding capped
-  load_size a is = rw (load_tree nodes left k to a is)
+-- ---- a node's count, from its inputs'
 
-  pub splat_size : (v : ℕ) → node_at nodes k ≡ Node.Splat v → 1 ≡ capped (G (tree nodes left k))
-  unfolding capped
-  splat_size v is = rw (splat_tree nodes left k to v is)
+pub load_size : (t : Tree) (window address : ℕ) → t ≡ load window address → 1 ≡ capped (G t)
+unfolding capped
+load_size t window address e = rw e
 
-  pub op_size : (o : ℕ) → node_at nodes k ≡ Node.Op o → {one other : ℕ}
-      → one ≡ capped (G (tree nodes left (get_or left k 0))) → other ≡ capped (G (tree nodes left (k - 1)))
-      → capped (one + other + 1) ≡ capped (G (tree nodes left k))
-  op_size o is p q = rw (p, q, op_tree nodes left k to o is) (capped_sum _ _)
+pub splat_size : (t : Tree) (v : ℕ) → t ≡ splat v → 1 ≡ capped (G t)
+unfolding capped
+splat_size t v e = rw e
 
-  pub shift_size : (s : ShiftBy) → node_at nodes k ≡ Node.Shift s → {one : ℕ} → one ≡ capped (G (tree nodes left (k - 1)))
-      → capped (one + one + 1) ≡ capped (G (tree nodes left k))
-  shift_size s is p =
-      let g = G (tree nodes left (k - 1)) in
-      let e : g + g + 1 ≡ 2 * g + 1 = omega arith in
-      rw (p, shift_tree nodes left k to s is) (capped_sum _ _ ∙ ap capped e)
+pub op_size : (t l r : Tree) (o one other : ℕ) → t ≡ op o l r → one ≡ capped (G l) → other ≡ capped (G r)
+    → min (one + other + 1) (long_most + 1) ≡ capped (G t)
+unfolding capped
+op_size t l r o one other e p q = rw (p, q, e) (capped_sum (G l) (G r))
+
+pub shift_size : (t child : Tree) (a b one : ℕ) → t ≡ shift a b child → one ≡ capped (G child)
+    → min (one + one + 1) (long_most + 1) ≡ capped (G t)
+unfolding capped
+shift_size t child a b one e p =
+    let g = G child in
+    let d : g + g + 1 ≡ 2 * g + 1 = omega arith in
+    rw (p, e) (capped_sum g g ∙ ap capped d)
 
 -- ---- a graph handed over as tables
 
@@ -66,23 +59,10 @@ module _ (head nodes : List ℕ) where
   unfolding size_of
   checked_size e = rw e
 
-  module _ (passed : checking vector_bytes head nodes ≡ done) where
-    formed : Formed vector_bytes (graph_of head nodes)
-    formed = checked_formed vector_bytes head nodes passed
-
-    all_counted : (header_of head).count ≡ (graph_of head nodes).N
-    all_counted = ap (λ (g : Graph). g.N) (header_graph vector_bytes head nodes formed)
-
-    pub some_counted : 1 ≤ (header_of head).count
-    some_counted = rw all_counted (some_node (graph_of head nodes) formed)
-
-    pub root_linked : ((header_of head).count - 1 < nodes_most) × LinkedTo nodes (lefts (node_at nodes) nodes_most) ((header_of head).count - 1 + 1)
-    root_linked = rw all_counted (
-      omega (arith, some_node (graph_of head nodes) formed, formed.most),
-      linked_root (graph_of head nodes) formed,
-    )
-
-    pub root_size : capped (G (tree nodes (lefts (node_at nodes) nodes_most) ((header_of head).count - 1))) ≡ size_of head nodes
-    root_size =
-        rw (all_counted, root_tree nodes (graph_of head nodes).N (some_node (graph_of head nodes) formed))
-        (sym (checked_size (ap (λ (a : Answer). a.number) passed)))
+  -- which ends at its last node
+  pub root_size : (root : ℕ) → done ≡ checking vector_bytes head nodes → root + 1 ≡ get_or head 3 0
+      → capped (G (tree nodes root)) ≡ size_of head nodes
+  root_size root e is =
+      let some = some_counted head nodes (checked_formed vector_bytes head nodes (sym e)) in
+      let at : root ≡ get_or head 3 0 - 1 = omega arith in
+      rw (at, root_tree nodes (get_or head 3 0) some) (sym (checked_size (ap (λ (answer : Answer). answer.number) (sym e))))
