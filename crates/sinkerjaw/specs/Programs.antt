@@ -1,7 +1,7 @@
 -- A program for a caller in C: its head, by value in Rattle, goes in numbers or in a lent table, the program table.
-use Rattle.std.specs.Prelude.{ℕ, List, [], ◌∷◌, Bool, cond, ltb, eqb, length}
+use Rattle.std.specs.Prelude.{ℕ, List, [], ◌∷◌, Bool, cond, ltb, length}
 use Rattle.rules.specs.Answers.{ROOM, at}
-use Rattle.rules.specs.Tables.{padded, table_left}
+use Rattle.rules.specs.Tables.{table_left}
 use Rattle.rules.specs.Calls.{WithProgram}
 use Rattle.rules.specs.declared.program.ProgramHead.{ProgramHead}
 use Rattle.sinkerjaw.specs.Packed.{packed}
@@ -19,10 +19,6 @@ program_short program = ltb (length program) program_entries
 -- a head in its entries
 abbrev pub in_entries : ProgramHead → List ℕ
 in_entries h = h.d ∷ h.f ∷ h.prologue ∷ h.body ∷ h.epilogue ∷ []
-
--- a program table after a packed answer and its head, which is zero on every refusal
-abbrev pub program_after : ℕ → (program : List ℕ) → ProgramHead → List ℕ
-program_after answer program head = cond (eqb answer ROOM) program (padded (length program) (in_entries head))
 
 -- a packed answer with a program
 pub record PackedProgram : Type 0 where

@@ -13,8 +13,9 @@ ghost use Rattle.sinkerjaw.specs.Given.{packed_sheet, of_with_sheet, packed_work
 ghost use Rattle.sinkerjaw.specs.Programs.{head_of, packed_program, handed};
 
 use crate::packing::packed;
-use crate::programs::{PROGRAM_ENTRIES, leave_program};
-use rules::answers::{PlanAnswer, TranslateAnswer};
+use crate::programs::{PROGRAM_ENTRIES, hand_over};
+use answers::Numbered;
+use rules::answers::Refusal;
 use rules::program::ProgramHead;
 
 // Reads a loop sheet into two tables.
@@ -22,8 +23,7 @@ use rules::program::ProgramHead;
 pub extern "C" fn sinkerjaw_read(text: &[u8], head: &mut [u64], nodes: &mut [u64]) -> u64
     ensures { packed_sheet result head.new nodes.new ≡ of_with_sheet (reading text.now head.old nodes.old) }
 {
-    let answer = sheet::read(text, head, nodes);
-    packed(answers::of_read(answer))
+    packed(Numbered::from(sheet::read(text, head, nodes)))
 }
 
 // Checks a sheet or graph as if it were read.
@@ -31,8 +31,7 @@ pub extern "C" fn sinkerjaw_read(text: &[u8], head: &mut [u64], nodes: &mut [u64
 pub extern "C" fn sinkerjaw_check(head: &[u64], nodes: &[u64]) -> u64
     ensures { result ≡ packed (checking vector_bytes head.now nodes.now) }
 {
-    let answer = graph::check(head, nodes);
-    packed(answers::of_check(answer))
+    packed(Numbered::from(graph::check(head, nodes)))
 }
 
 // Checks a graph as if it were read, and its offsets.
@@ -40,8 +39,7 @@ pub extern "C" fn sinkerjaw_check(head: &[u64], nodes: &[u64]) -> u64
 pub extern "C" fn sinkerjaw_offset_check(head: &[u64], nodes: &[u64]) -> u64
     ensures { result ≡ packed (offset_checking vector_bytes head.now nodes.now) }
 {
-    let answer = graph_offsets::offset_check(head, nodes);
-    packed(answers::of_offset(answer))
+    packed(Numbered::from(graph_offsets::offset_check(head, nodes)))
 }
 
 // Does a loop element by element.
@@ -49,8 +47,7 @@ pub extern "C" fn sinkerjaw_offset_check(head: &[u64], nodes: &[u64]) -> u64
 pub extern "C" fn sinkerjaw_plain(head: &[u64], nodes: &[u64], work: &mut [u8], table: &[u8]) -> u64
     ensures { packed_work result work.new ≡ of_with_work (looping vector_bytes head.now nodes.now work.old table.now) }
 {
-    let answer = plain::run_loop(head, nodes, work, table);
-    packed(answers::of_plain(answer))
+    packed(Numbered::from(plain::run_loop(head, nodes, work, table)))
 }
 
 // Puts shifts into a bare sheet by one of four rules.
@@ -64,8 +61,7 @@ pub extern "C" fn sinkerjaw_place(
 ) -> u64
     ensures { packed_sheet result placed_head.new placed_nodes.new ≡ of_with_sheet (placing vector_bytes rule head.now nodes.now placed_head.old placed_nodes.old) }
 {
-    let answer = placing::place(rule, head, nodes, placed_head, placed_nodes);
-    packed(answers::of_place(answer))
+    packed(Numbered::from(placing::place(rule, head, nodes, placed_head, placed_nodes)))
 }
 
 // Translates a graph into a program for windows of so many bytes: its head in the program table, its sections in three more.
@@ -83,14 +79,10 @@ pub extern "C" fn sinkerjaw_translate(
     ensures { packed_program result program.new prologue.new body.new epilogue.new ≡ handed program.old prologue.old body.old epilogue.old (translating vector_bytes head.now nodes.now work_len table_len prologue.old body.old epilogue.old) }
 {
     if program.len() < PROGRAM_ENTRIES {
-        return packed(answers::of_translate(TranslateAnswer::Room));
+        return packed(Numbered::from(Refusal::Room));
     }
     let made = translating::translate(head, nodes, work_len, table_len, prologue, body, epilogue);
-    let told = made.answer;
-    let made_head = made.head;
-    let answer = packed(answers::of_translate(told));
-    leave_program(answer, made_head, program);
-    answer
+    hand_over(made, program)
 }
 
 // Places a bare sheet by a rule and translates it, in one step.
@@ -109,16 +101,12 @@ pub extern "C" fn sinkerjaw_plan(
     ensures { packed_program result program.new prologue.new body.new epilogue.new ≡ handed program.old prologue.old body.old epilogue.old (planning vector_bytes rule head.now nodes.now work_len table_len prologue.old body.old epilogue.old) }
 {
     if program.len() < PROGRAM_ENTRIES {
-        return packed(answers::of_plan(PlanAnswer::Room));
+        return packed(Numbered::from(Refusal::Room));
     }
     let made = planning::plan(
         rule, head, nodes, work_len, table_len, prologue, body, epilogue,
     );
-    let told = made.answer;
-    let made_head = made.head;
-    let answer = packed(answers::of_plan(told));
-    leave_program(answer, made_head, program);
-    answer
+    hand_over(made, program)
 }
 
 // Runs a program: D, F, the three sections with their rows, the windows and the budget.
@@ -139,12 +127,11 @@ pub extern "C" fn sinkerjaw_run(
     ensures { packed_work result work.new ≡ of_with_work (running vector_bytes (head_of d f prologue_rows body_rows epilogue_rows) prologue.now body.now epilogue.now budget work.old table.now) }
 {
     let head = ProgramHead {
-        d: d,
-        f: f,
+        d,
+        f,
         prologue: prologue_rows,
         body: body_rows,
         epilogue: epilogue_rows,
     };
-    let answer = machine::run(head, prologue, body, epilogue, budget, work, table);
-    packed(answers::of_run(answer))
+    packed(Numbered::from(machine::run(head, prologue, body, epilogue, budget, work, table)))
 }

@@ -1,7 +1,0 @@
--- The call meets the definition, and its answer is packed.
-use mathlib.Core.Path.{ap, ◌∙◌}
-use Rattle.sinkerjaw.specs.Packed.{packed}
-use Rattle.sinkerjaw.proofs.sinkerjaw_check.Goals as goal
-
-pub returns : goal.returns
-returns c = c.packed.ensures ∙ ap packed (c.of_check.ensures ∙ c.check-answer.ensures)
