@@ -1,3 +1,4 @@
 pub mod PassLaws
 pub mod Outcomes
 pub mod SpreadLaws
+pub mod KindLaws

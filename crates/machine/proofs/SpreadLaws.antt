@@ -23,3 +23,5 @@ unfolding vsplat
 spread_one v h =
     let e : v * 72340172838076673 ≡ (v + 256 * v) * 281479271743489 = omega arith in
     rw e (spread_two (v + 256 * v) (omega arith) ∙ splat_doubled 1 8 v h)
+
+pub ruleset spreads = (spread_one, spread_two, spread_four)

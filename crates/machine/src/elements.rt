@@ -22,7 +22,7 @@ pub(crate) struct Element {
 impl From<Width> for Element {
     ghost from_gives = { λ width element. element.width ≡ width };
 
-    #[tactic(auto, using(crate::proofs::SpreadLaws::spread_one, crate::proofs::SpreadLaws::spread_two, crate::proofs::SpreadLaws::spread_four), unfolding(rules::specs::Elements::modulus))]
+    #[tactic(auto, using(crate::proofs::SpreadLaws::spreads), unfolding(rules::specs::Elements::modulus))]
     fn from(width: Width) -> Element {
         match width {
             Width::One => Element {

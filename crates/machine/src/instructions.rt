@@ -20,6 +20,7 @@ fn splat_value(i: Instruction) -> u64
 }
 
 // One product is the value in every element of eight bytes, whatever the width.
+#[tactic(auto, using(std::proofs::lemmas::Bool::Decides::nat_tests), unfolding(machine_kinds::specs::Trying::try_as, rules::specs::Machine::fields_as, rules::specs::Machine::reaches_as, rules::specs::Machine::effect_as))]
 fn do_splat(element: Element, i: Instruction, registers: &mut [[u8; 16]; 1024]) -> bool
     ensures { Tries splat_kind (width_bytes element.width) i result registers.old registers.new }
 {
@@ -35,6 +36,7 @@ fn do_splat(element: Element, i: Instruction, registers: &mut [[u8; 16]; 1024]) 
     true
 }
 
+#[tactic(auto, using(crate::proofs::KindLaws::kinds), unfolding(rules::specs::Machine::fields_as))]
 pub(crate) fn act(
     element: Element,
     i: Instruction,

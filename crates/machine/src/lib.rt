@@ -18,6 +18,7 @@ use rules::answers::Refusal;
 use rules::program::ProgramHead;
 
 // Runs a program on a budget of steps, and gives the steps done. Work holds what was stored, also where the run stopped.
+#[tactic(auto, using(crate::proofs::PassLaws::run_goes, crate::proofs::PassLaws::run_refused, refusals_machine::proofs::ReadyLaws::ready))]
 pub fn run(
     head: ProgramHead,
     prologue: &[u32],
