@@ -4,22 +4,23 @@ use mathlib.Core.Path.{◌≡◌, refl, sym, ap, ◌∙◌}
 use mathlib.Core.Bool.{Bool, false, ◌||◌}
 use mathlib.Core.List.{List, [], ◌∷◌}
 use native.Mathlib.Omega.{arith}
-use lib.ListN.{length, replicate}
+use Rattle.std.specs.Prelude.{Result, Err, ⊤}
+use lib.ListN.{replicate}
 use Rattle.rules.specs.Limits.{vector_bytes}
-use Rattle.rules.specs.Answers.{Answer, DONE, done, first, of_translate, of_plan}
-use Rattle.rules.specs.Tables.{Graph, graph_of, head_of, padded, no_program}
+use Rattle.rules.specs.Answers.{Answer, DONE, done, first, of_refusal}
+use Rattle.rules.specs.Tables.{Graph, graph_of, head_of, padded, table_left}
 use Rattle.rules.specs.Checks.{head_short, nodes_short, room_check, rule_check, form_check, bare_check, align_check}
-use Rattle.rules.specs.Calls.{WithSheet, WithProgram, place_answer, placed_graph, placing, graph_program, program_left, bare_checks, plan_answer, planning, translating}
-use Rattle.rules.specs.declared.answers.PlaceAnswer.{PlaceAnswer}
-use Rattle.rules.specs.declared.answers.PlanAnswer.{PlanAnswer}
-use Rattle.rules.specs.declared.answers.PlanAnswer.TheVariants as Plan
+use Rattle.rules.specs.Calls.{WithSheet, place_answer, placed_graph, placing, graph_program, bare_checks, plan_answer, planning, translating}
+use Rattle.rules.specs.declared.answers.Refusal.{Refusal}
+use Rattle.rules.specs.declared.program.ProgramHead.{ProgramHead}
+use Rattle.theory.proofs.AnswerLaws.{refusal_not_done}
 use Rattle.theory.proofs.FormLaws.{each_check_done, refuse_done}
 use Rattle.theory.proofs.Checked.{sixteen}
 use Rattle.theory.proofs.Demands.{tables_roomy, planned_unrefused}
 use Rattle.theory.proofs.Stepwise.{placed_translates}
 use Rattle.placing.specs.Handing.{sheet_given}
 use Rattle.translating.specs.Programs.{program_given}
-use Rattle.translating.specs.declared.Translated.{Translated}
+use Rattle.translating.proofs.TranslateLaws.{refused_leaves}
 use Rattle.refusals_planning.specs.Judging.{tables_short}
 use Rattle.planning.specs.Planning.{plan_given}
 
@@ -72,70 +73,34 @@ module _ (rule : ℕ) (head nodes : List ℕ) (work_len table_len : ℕ) (prolog
   unfolding placing
   placing_is = rw places
 
-  planned : (planning vector_bytes rule head nodes work_len table_len prologue body epilogue).answer ≡ done
-  unfolding planning
-  planned = planned_unrefused vector_bytes sixteen rule head nodes work_len table_len prologue body epilogue ∙ fine
+  pub never_refused : (r : Refusal) (head' nodes' : List ℕ)
+      → sheet_given (Err r) head' nodes' ≡ placing vector_bytes rule head nodes own_head own_nodes → ⊥
+  never_refused r head' nodes' p =
+      absurd (omega (arith, refusal_not_done r, ap (λ (x : WithSheet). x.answer.number) (p ∙ placing_is)))
 
   -- what the two steps give is what the call is to give
-  pub plan_done : (step : PlaceAnswer) (head' nodes' : List ℕ)
+  pub plan_done : (step : Result ⊤ Refusal) (head' nodes' : List ℕ)
       → sheet_given step head' nodes' ≡ placing vector_bytes rule head nodes own_head own_nodes
-      → (made : Translated) (prologue' body' epilogue' : List ℕ)
+      → (made : Result ProgramHead Refusal) (prologue' body' epilogue' : List ℕ)
       → program_given made prologue' body' epilogue' ≡ translating vector_bytes head' nodes' work_len table_len prologue body epilogue
-      → plan_given (record { answer = Plan.Done; head = made.head }) prologue' body' epilogue'
-      ≡ planning vector_bytes rule head nodes work_len table_len prologue body epilogue
+      → plan_given made prologue' body' epilogue' ≡ planning vector_bytes rule head nodes work_len table_len prologue body epilogue
   plan_done step head' nodes' p made prologue' body' epilogue' t =
       let h : head' ≡ padded 10 (head_of placed) = ap (λ (x : WithSheet). x.head) (p ∙ placing_is) in
       let n : nodes' ≡ padded 192 placed.nodes = ap (λ (x : WithSheet). x.nodes) (p ∙ placing_is) in
-      let both =
-      placed_translates vector_bytes sixteen rule head nodes prologue body epilogue 10 192 (omega arith, omega arith) work_len table_len number in
-      let all : program_given made prologue' body' epilogue' ≡ planning vector_bytes rule head nodes work_len table_len prologue body epilogue =
-      rw (h, n) at t ∙ both in
-      let answered : of_translate made.answer ≡ done = ap (λ (x : WithProgram). x.answer) all ∙ planned in
-      rw answered at all
+      rw (h, n) at t
+      ∙ placed_translates vector_bytes sixteen rule head nodes prologue body epilogue 10 192 (omega arith, omega arith) work_len table_len number
 
 -- ---- a refusal
 
--- an answer that is not Done, and one that is not Room, as a match says it
-abbrev NotDone : PlanAnswer → Type 0
-NotDone a = a ≡ Plan.Done → ⊥
-
-abbrev NotRoom : PlanAnswer → Type 0
-NotRoom a = a ≡ Plan.Room → ⊥
-
 module _ (rule : ℕ) (head nodes : List ℕ) (work_len table_len : ℕ) (prologue body epilogue : List ℕ) where
-  -- the answer of the whole call
-  abbrev Answers : PlanAnswer → Type 0
-  Answers a = of_plan a ≡ first (bare_checks vector_bytes rule head nodes work_len table_len prologue body epilogue)
-
-  answer_is : (a : PlanAnswer) → Answers a → plan_answer vector_bytes rule head nodes work_len table_len prologue body epilogue ≡ of_plan a
-  answer_is a e = planned_unrefused vector_bytes sixteen rule head nodes work_len table_len prologue body epilogue ∙ sym e
-
-  pub room_leaves : Answers Plan.Room
-      → plan_given (record { answer = Plan.Room; head = no_program }) prologue body epilogue
+  pub refusal_leaves : (r : Refusal)
+      → of_refusal r ≡ first (bare_checks vector_bytes rule head nodes work_len table_len prologue body epilogue)
+      → plan_given (Err r) (table_left (of_refusal r).number prologue []) (table_left (of_refusal r).number body [])
+      (table_left (of_refusal r).number epilogue [])
       ≡ planning vector_bytes rule head nodes work_len table_len prologue body epilogue
   unfolding planning
-  room_leaves e = rw (answer_is Plan.Room e)
-
-  abbrev cleared : List ℕ → List ℕ
-  cleared section = padded (length section) []
-
-  pub refusal_leaves : (a : PlanAnswer) → Answers a → NotDone a → NotRoom a
-      → plan_given (record { answer = a; head = no_program }) (cleared prologue) (cleared body) (cleared epilogue)
-      ≡ planning vector_bytes rule head nodes work_len table_len prologue body epilogue
-  unfolding planning
-  refusal_leaves a e not_done not_room = rw (answer_is a e) (go a not_done not_room)
-    where
-      go : (a : PlanAnswer) → NotDone a → NotRoom a
-          → plan_given (record { answer = a; head = no_program }) (cleared prologue) (cleared body) (cleared epilogue)
-          ≡ program_left (of_plan a) (graph_of head nodes).D (graph_program vector_bytes (placed_graph vector_bytes rule (graph_of head nodes))) prologue body epilogue
-      go Plan.Done d r = absurd (d refl)
-      go Plan.Room d r = absurd (r refl)
-      go (Plan.Range k) d r = refl
-      go (Plan.Shape k) d r = refl
-      go (Plan.Bare k) d r = refl
-      go (Plan.Window k) d r = refl
-      go (Plan.Align k) d r = refl
-      go (Plan.Bounds k) d r = refl
-      go (Plan.Carry k) d r = refl
-      go (Plan.Offset k) d r = refl
-      go Plan.Long d r = refl
+  refusal_leaves r e =
+      let answer : plan_answer vector_bytes rule head nodes work_len table_len prologue body epilogue ≡ of_refusal r =
+      planned_unrefused vector_bytes sixteen rule head nodes work_len table_len prologue body epilogue ∙ sym e in
+      let g : Graph = graph_of head nodes in
+      rw answer (refused_leaves r g.D (graph_program vector_bytes (placed_graph vector_bytes rule g)) prologue body epilogue)

@@ -7,24 +7,9 @@ ghost use Rattle.rules.specs.Limits.{vector_bytes};
 ghost use Rattle.rules.specs.Calls.{planning};
 ghost use Rattle.planning.specs.Planning.{plan_given};
 
-use rules::answers::PlanAnswer;
+use rules::answers::Refusal;
 use rules::limits::{HEAD_ENTRIES, NODE_ENTRIES};
 use rules::program::ProgramHead;
-
-// The answer, and the program's head: zero where there is no program.
-#[derive(Clone, Copy)]
-pub struct Planned {
-    pub answer: PlanAnswer,
-    pub head: ProgramHead,
-}
-
-const NO_PROGRAM: ProgramHead = ProgramHead {
-    d: 0,
-    f: 0,
-    prologue: 0,
-    body: 0,
-    epilogue: 0,
-};
 
 // Plans a bare sheet for windows of so many bytes. ROOM leaves the sections as they are; another refusal leaves them all zero.
 pub fn plan(
@@ -36,31 +21,19 @@ pub fn plan(
     prologue: &mut [u32],
     body: &mut [u32],
     epilogue: &mut [u32],
-) -> Planned
+) -> Result<ProgramHead, Refusal>
     ensures { plan_given result prologue.new body.new epilogue.new ≡ planning vector_bytes rule head.now nodes.now work_len table_len prologue.old body.old epilogue.old }
 {
-    let answer = refusals_planning::judge(
+    if let Err(refusal) = refusals_planning::judge(
         rule, head, nodes, work_len, table_len, prologue, body, epilogue,
-    );
-    if let PlanAnswer::Room = answer {
-        return Planned {
-            answer: PlanAnswer::Room,
-            head: NO_PROGRAM,
-        };
+    ) {
+        translating_rows::refuse(refusal, prologue, body, epilogue);
+        return Err(refusal);
     }
-    let PlanAnswer::Done = answer else {
-        translating_rows::clear(prologue);
-        translating_rows::clear(body);
-        translating_rows::clear(epilogue);
-        return Planned {
-            answer: answer,
-            head: NO_PROGRAM,
-        };
-    };
     let mut placed_head = [0u64; HEAD_ENTRIES];
     let mut placed_nodes = [0u64; NODE_ENTRIES];
-    placing::place(rule, head, nodes, &mut placed_head, &mut placed_nodes);
-    let program = translating::translate(
+    placing::place(rule, head, nodes, &mut placed_head, &mut placed_nodes)?;
+    translating::translate(
         &placed_head,
         &placed_nodes,
         work_len,
@@ -68,10 +41,5 @@ pub fn plan(
         prologue,
         body,
         epilogue,
-    );
-    let made = program.head;
-    Planned {
-        answer: PlanAnswer::Done,
-        head: made,
-    }
+    )
 }

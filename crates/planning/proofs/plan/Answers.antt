@@ -1,24 +1,25 @@
 -- A refusal leaves what the definition lays down; where there is none the two steps give the call's program (PlanLaws).
-use mathlib.Core.Path.{sym}
-use Rattle.planning.proofs.PlanLaws.{room_leaves, refusal_leaves, plan_done}
+use Rattle.std.proofs.Common.{sym}
+use Rattle.planning.proofs.PlanLaws.{refusal_leaves, never_refused, plan_done}
 use Rattle.planning.proofs.plan.Goals as goal
 
-pub returns-in-Room : goal.returns-in-Room
-returns-in-Room c =
+pub returns-in-Err : goal.returns-in-Err
+returns-in-Err c =
     let a = c.args in
-    room_leaves a.rule a.head.now a.nodes.now a.work_len a.table_len a.prologue.now a.body.now a.epilogue.now
-    (rw c.in-Room.is at c.judge-answer.ensures)
+    let left = c.refuse.ensures in
+    rw (left.prologue_left, left.body_left, left.epilogue_left)
+    (refusal_leaves a.rule a.head.now a.nodes.now a.work_len a.table_len a.prologue.now a.body.now a.epilogue.now _ c.in-Err.ensures.result_value)
 
-pub returns-in_default-answer : goal.returns-in_default-answer
-returns-in_default-answer c =
+pub returns-in_err-place : goal.returns-in_err-place
+returns-in_err-place c =
     let a = c.args in
-    rw (c.clear.ensures, c.clear-in_default-answer.ensures, c.clear-in_default-answer-2.ensures)
-    (refusal_leaves a.rule a.head.now a.nodes.now a.work_len a.table_len a.prologue.now a.body.now a.epilogue.now
-    c.judge-answer.result c.judge-answer.ensures c.in_default-answer.not-Done c.in_default.not-Room)
+    let fine = sym c.in_default.ensures.result_value in
+    absurd (never_refused a.rule a.head.now a.nodes.now a.work_len a.table_len a.prologue.now a.body.now a.epilogue.now fine
+    _ _ _ c.in_err-place.ensures)
 
 pub returns : goal.returns
 returns c =
     let a = c.args in
-    let fine = sym (rw c.in-Done.is at c.judge-answer.ensures) in
+    let fine = sym c.in_default.ensures.result_value in
     plan_done a.rule a.head.now a.nodes.now a.work_len a.table_len a.prologue.now a.body.now a.epilogue.now fine
-    c.place.result _ _ c.place.ensures c.translate-program.result _ _ _ c.translate-program.ensures
+    c.place.result _ _ c.place.ensures c.translate.result _ _ _ c.translate.ensures
