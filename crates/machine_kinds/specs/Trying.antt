@@ -30,8 +30,8 @@ abbrev pub registers_known : Instruction → Bool
 registers_known i = ltb i.destination registers && (ltb i.a registers && ltb i.b registers)
 
 -- the registers that an operation on elements of D bytes leaves
-abbrev pub operated : (D : ℕ) → Instruction → List (List ℕ) → List (List ℕ)
-operated D i regs = set regs i.destination (vop vector_bytes D i.low (get_or regs i.a []) (get_or regs i.b []))
+abbrev pub operated : (D operation destination a b : ℕ) → List (List ℕ) → List (List ℕ)
+operated D operation destination a b regs = set regs destination (vop vector_bytes D operation (get_or regs a []) (get_or regs b []))
 
 -- what an instruction that goes by registers alone does: work stays, whatever it is, in any pass
 abbrev pub Tries : (kind D : ℕ) → Instruction → Bool → (before after : List (List ℕ)) → Type 0

@@ -2,148 +2,126 @@
 // store. False is a FAULT, and then nothing is changed.
 #![tactic(auto)]
 
-ghost use Rattle.std.specs.Prelude.{◌≡◌, [], ◌≤◌, ◌<◌};
+ghost use Rattle.std.specs.Prelude.{◌≡◌, true, false, [], ◌<◌, MatchOption};
 ghost use Rattle.rules.specs.Limits.{registers};
 ghost use Rattle.rules.specs.Units.{width_bytes};
 ghost use Rattle.rules.specs.Frames.{load_kind, op_kind};
 ghost use Rattle.rules.specs.Machine.{pair_kind, splice_kind, store_kind};
 ghost use Rattle.machine_kinds.specs.Trying.{tried, try_as, Tries, any_width, registers_known, operated};
 
+use operations::Operation;
 use rules::program::Instruction;
 use rules::units::{VectorNumber, Width};
+use vector_elements::{Lane, VECTOR_BYTES, Vector};
 
 pub const REGISTERS: u32 = 1024;
 
+// The registers, as arrays count.
+const REGISTER_COUNT: usize = REGISTERS as usize;
+
+pub type Registers = [Vector; REGISTER_COUNT];
+
 const WINDOWS: u32 = 2;
 
-const OPERATIONS: u32 = 6;
+// V, as an amount counts.
+const V: u32 = VECTOR_BYTES as u32;
 
-const V: u32 = 16;
-
-// Whether the three registers of an instruction on two vectors are there.
-fn registers_known(i: Instruction) -> bool
-    ensures { result ≡ registers_known i }
-{
-    if REGISTERS <= i.destination {
-        return false;
-    }
-    if REGISTERS <= i.a {
-        return false;
-    }
-    i.b < REGISTERS
+// The three registers of an instruction on two vectors: all are there.
+#[derive(Clone, Copy)]
+struct Operands {
+    destination: usize,
+    a: usize,
+    b: usize,
+    ghost known: { (destination < registers) × (a < registers) × (b < registers) },
 }
 
+impl Operands {
+    fn of(i: Instruction) -> Option<Operands>
+        ensures { MatchOption result (registers_known i ≡ false) (λ r. (registers_known i ≡ true) × (r.destination ≡ i.destination) × (r.a ≡ i.a) × (r.b ≡ i.b)) }
+    {
+        if REGISTERS <= i.destination || REGISTERS <= i.a || REGISTERS <= i.b {
+            return None;
+        }
+        Some(Operands {
+            destination: i.destination as usize,
+            a: i.a as usize,
+            b: i.b as usize,
+        })
+    }
+}
+
+#[tactic(auto, unfolding(crate::specs::Trying::try_as, rules::specs::Machine::fields_as, rules::specs::Machine::reaches_as, rules::specs::Machine::effect_as))]
 pub fn do_load<'a>(
     i: Instruction,
     pass: VectorNumber,
-    registers: &mut [[u8; 16]; 1024],
+    registers: &mut Registers,
     work: &'a [u8],
     table: &'a [u8],
 ) -> bool
     ensures { tried result registers.new work.now ≡ try_as load_kind any_width table.now pass.0 i registers.old work.now }
 {
-    if REGISTERS <= i.destination {
+    if REGISTERS <= i.destination || WINDOWS <= i.a {
         return false;
     }
-    if WINDOWS <= i.a {
-        return false;
-    }
-    let v = vector_blocks::load(work, table, i.a, i.low, pass);
-    registers[i.destination as usize] = v;
+    registers[i.destination as usize] = vector_blocks::load(work, table, i.a, i.low, pass);
     true
 }
 
-// The width is gone by before the registers are copied, and each width writes its own result: each copy is then read at one width
-// only, and no result is put together from the pieces of four.
-fn op_narrow(width: Width, i: Instruction, file: &mut [[u8; 16]; 1024])
-    requires { (i.destination < registers) × (i.a < registers) × (i.b < registers) × (width_bytes width ≤ 2) }
-    ensures { file.new ≡ operated (width_bytes width) i file.old }
+fn operate<E: Lane>(operation: u32, r: Operands, file: &mut Registers)
+    ensures { file.new ≡ operated E.BYTES operation r.destination r.a r.b file.old }
 {
-    let d = i.destination as usize;
-    let a = i.a as usize;
-    let b = i.b as usize;
-    match width {
-        Width::One => {
-            let v = vector_lanes::vop_one(i.low, file[a], file[b]);
-            file[d] = v;
-        }
-        _ => {
-            let v = vector_lanes::vop_two(i.low, file[a], file[b]);
-            file[d] = v;
-        }
-    }
+    file[r.destination] = vector_lanes::vop::<E>(operation, file[r.a], file[r.b]);
 }
 
-fn op_wide(width: Width, i: Instruction, file: &mut [[u8; 16]; 1024])
-    requires { (i.destination < registers) × (i.a < registers) × (i.b < registers) × (4 ≤ width_bytes width) }
-    ensures { file.new ≡ operated (width_bytes width) i file.old }
-{
-    let d = i.destination as usize;
-    let a = i.a as usize;
-    let b = i.b as usize;
-    match width {
-        Width::Four => {
-            let v = vector_lanes::vop_four(i.low, file[a], file[b]);
-            file[d] = v;
-        }
-        _ => {
-            let v = vector_lanes::vop_eight(i.low, file[a], file[b]);
-            file[d] = v;
-        }
-    }
-}
-
-// By halves: of four widths the compiler would make a jump through a table, which costs more than two tests.
-pub fn do_op(width: Width, i: Instruction, registers: &mut [[u8; 16]; 1024]) -> bool
+#[tactic(auto, unfolding(crate::specs::Trying::try_as, rules::specs::Machine::fields_as, rules::specs::Machine::reaches_as, rules::specs::Machine::effect_as))]
+pub fn do_op(width: Width, i: Instruction, registers: &mut Registers) -> bool
     ensures { Tries op_kind (width_bytes width) i result registers.old registers.new }
 {
-    if !registers_known(i) {
+    let Some(r) = Operands::of(i) else {
         return false;
-    }
-    if OPERATIONS <= i.low {
+    };
+    if Operation::try_from(i.low as u64).is_err() {
         return false;
     }
     match width {
-        Width::One | Width::Two => op_narrow(width, i, registers),
-        Width::Four | Width::Eight => op_wide(width, i, registers),
+        Width::One => operate::<u8>(i.low, r, registers),
+        Width::Two => operate::<u16>(i.low, r, registers),
+        Width::Four => operate::<u32>(i.low, r, registers),
+        Width::Eight => operate::<u64>(i.low, r, registers),
     }
     true
 }
 
-pub fn do_pair(i: Instruction, registers: &mut [[u8; 16]; 1024]) -> bool
+#[tactic(auto, unfolding(crate::specs::Trying::try_as, rules::specs::Machine::fields_as, rules::specs::Machine::reaches_as, rules::specs::Machine::effect_as))]
+pub fn do_pair(i: Instruction, registers: &mut Registers) -> bool
     ensures { Tries pair_kind any_width i result registers.old registers.new }
 {
-    if !registers_known(i) {
+    let Some(r) = Operands::of(i) else {
         return false;
-    }
+    };
     if V <= i.low {
         return false;
     }
-    let v = vector_bytes::vshiftpair(registers[i.a as usize], registers[i.b as usize], i.low);
-    registers[i.destination as usize] = v;
+    registers[r.destination] = vector_bytes::vshiftpair(registers[r.a], registers[r.b], i.low);
     true
 }
 
-pub fn do_splice(i: Instruction, registers: &mut [[u8; 16]; 1024]) -> bool
+#[tactic(auto, unfolding(crate::specs::Trying::try_as, rules::specs::Machine::fields_as, rules::specs::Machine::reaches_as, rules::specs::Machine::effect_as))]
+pub fn do_splice(i: Instruction, registers: &mut Registers) -> bool
     ensures { Tries splice_kind any_width i result registers.old registers.new }
 {
-    if !registers_known(i) {
+    let Some(r) = Operands::of(i) else {
         return false;
-    }
+    };
     if V < i.low {
         return false;
     }
-    let v = vector_bytes::vsplice(registers[i.a as usize], registers[i.b as usize], i.low);
-    registers[i.destination as usize] = v;
+    registers[r.destination] = vector_bytes::vsplice(registers[r.a], registers[r.b], i.low);
     true
 }
 
-pub fn do_store(
-    i: Instruction,
-    pass: VectorNumber,
-    registers: &[[u8; 16]; 1024],
-    work: &mut [u8],
-) -> bool
+#[tactic(auto, unfolding(crate::specs::Trying::try_as, rules::specs::Machine::fields_as, rules::specs::Machine::reaches_as, rules::specs::Machine::effect_as))]
+pub fn do_store(i: Instruction, pass: VectorNumber, registers: &Registers, work: &mut [u8]) -> bool
     ensures { tried result registers.now work.new ≡ try_as store_kind any_width [] pass.0 i registers.now work.old }
 {
     if REGISTERS <= i.a {

@@ -1,52 +1,45 @@
 // The blocks of the two windows (document 01, "Vector code"): the load rule and the store rule. A load reads the part of a window
 // that it names, or zeros where there is none; a store writes the part, or says that work has none. Both answer for every pass.
-#![tactic(auto)]
+#![tactic(auto, unfolding(rules::specs::Vectors::block_zero, rules::specs::Vectors::inside, rules::specs::Vectors::loaded, rules::specs::Vectors::stored))]
 
-ghost use Rattle.std.specs.Prelude.{◌≡◌, ◌+◌, ◌≤◌, ◌<◌, min, length, take, drop};
+ghost use Rattle.std.specs.Prelude.{◌≡◌, ◌+◌, ◌≤◌, ◌<◌, IfSome, length, take, drop};
 ghost use Rattle.rules.specs.Limits.{vector_bytes};
 ghost use Rattle.rules.specs.PlainLoop.{window};
 ghost use Rattle.rules.specs.Vectors.{block_of, loaded};
-ghost use Rattle.vector_blocks.specs.Places.{place_of, too_many, far};
+ghost use Rattle.vector_blocks.specs.Places.{place_of, too_many};
 ghost use Rattle.vector_blocks.specs.Storing.{stores, storing};
 
 use rules::limits::{BLOCK_ZERO, V};
 use rules::units::{ByteOffset, VectorNumber};
+use vector_elements::{VECTOR_BYTES, Vector};
 
-// V, as lengths count.
-const VECTOR_BYTES: usize = 16;
-
-// A pass whose block lies past every window at every address: a window has fewer than 2^63 bytes, which is 2^59 blocks.
+// A pass whose block lies past every window at every address: a window has fewer than 2^63 bytes, which is 2^59 blocks. Every pass
+// from here on is outside, so none has to be counted further.
 const FAR: u64 = BLOCK_ZERO + 576460752303423488;
 
-// Where a block lies in a window.
-#[derive(Clone, Copy)]
-enum Place {
-    Inside(ByteOffset),
-    Outside,
-}
-
-// Every pass from FAR on is outside, so none has to be counted further.
-fn near(pass: VectorNumber) -> u64
-    ensures { result ≡ min pass.0 far }
-{
-    if pass.0 < FAR { pass.0 } else { FAR }
-}
-
-// The place of the block that holds address + 16 * pass, in a window of len bytes.
-fn place_of(address: u32, pass: VectorNumber, len: usize) -> Place
+// Where the block that holds address + 16 * pass begins in a window of len bytes, if it lies inside.
+fn place_of(address: u32, pass: VectorNumber, len: usize) -> Option<ByteOffset>
     requires { len < too_many }
-    ensures { result ≡ place_of vector_bytes len (block_of vector_bytes address pass.0) }
+    ensures place { result ≡ place_of vector_bytes len (block_of vector_bytes address pass.0) }
+    ensures fits { IfSome result (λ start. start.0 + vector_bytes ≤ len) }
 {
-    let block = (address as u64) / V + near(pass);
+    let block = (address as u64) / V + pass.0.min(FAR);
     if block < BLOCK_ZERO {
-        return Place::Outside;
+        return None;
     }
     let first = V * (block - BLOCK_ZERO);
     let end = first + V;
     if (len as u64) < end {
-        return Place::Outside;
+        return None;
     }
-    Place::Inside(ByteOffset(first))
+    Some(ByteOffset(first))
+}
+
+// The window that a load names: work, or table.
+fn window<'a>(work: &'a [u8], table: &'a [u8], from: u32) -> &'a [u8]
+    ensures { result.now ≡ window from work.now table.now }
+{
+    if from == 0 { work } else { table }
 }
 
 // The sixteen-byte part of work or of table that starts at a byte offset.
@@ -55,23 +48,12 @@ fn fetch<'a>(work: &'a [u8], table: &'a [u8], from: u32, start: ByteOffset) -> &
     ensures { result.now ≡ take vector_bytes (drop start.0 (window from work.now table.now)) }
 {
     let first = start.0 as usize;
-    if from == 0 {
-        let end = first + VECTOR_BYTES;
-        &work[first..end]
-    } else {
-        let end = first + VECTOR_BYTES;
-        &table[first..end]
-    }
+    let end = first + VECTOR_BYTES;
+    &window(work, table, from)[first..end]
 }
 
-fn window_len(work: &[u8], table: &[u8], from: u32) -> usize
-    ensures { (result ≡ length (window from work.now table.now)) × (result < too_many) }
-{
-    if from == 0 { work.len() } else { table.len() }
-}
-
-// A part of sixteen bytes, by value.
-fn vector_of(part: &[u8]) -> [u8; VECTOR_BYTES]
+// A part of sixteen bytes, by value. It is written out: of a copy in memory the compiler makes two, and a load waits for the first.
+fn vector_of(part: &[u8]) -> Vector
     requires { length part.now ≡ vector_bytes }
     ensures { result ≡ part.now }
 {
@@ -88,38 +70,24 @@ pub fn load<'a>(
     from: u32,
     address: u32,
     pass: VectorNumber,
-) -> [u8; VECTOR_BYTES]
+) -> Vector
     ensures { result ≡ loaded vector_bytes (window from work.now table.now) (block_of vector_bytes address pass.0) }
 {
-    let len = window_len(work, table, from);
-    let place = place_of(address, pass, len);
-    match place {
-        Place::Inside(start) => vector_of(fetch(work, table, from, start)),
-        Place::Outside => [0u8; VECTOR_BYTES],
-    }
-}
-
-fn copy_vector(part: &mut [u8], v: [u8; VECTOR_BYTES])
-    requires { length part.old ≡ vector_bytes }
-    ensures { part.new ≡ v }
-{
-    for i in 0..VECTOR_BYTES {
-        part[i] = v[i];
+    match place_of(address, pass, window(work, table, from).len()) {
+        Some(start) => vector_of(fetch(work, table, from, start)),
+        None => [0u8; VECTOR_BYTES],
     }
 }
 
 // The store rule: the part that is named is written, or false where work has none.
-pub fn store(work: &mut [u8], address: u32, pass: VectorNumber, v: [u8; VECTOR_BYTES]) -> bool
+pub fn store(work: &mut [u8], address: u32, pass: VectorNumber, v: Vector) -> bool
     ensures { stores result work.new ≡ storing vector_bytes work.old (block_of vector_bytes address pass.0) v }
 {
-    let place = place_of(address, pass, work.len());
-    match place {
-        Place::Inside(start) => {
-            let first = start.0 as usize;
-            let end = first + VECTOR_BYTES;
-            copy_vector(&mut work[first..end], v);
-            true
-        }
-        Place::Outside => false,
-    }
+    let Some(start) = place_of(address, pass, work.len()) else {
+        return false;
+    };
+    let first = start.0 as usize;
+    let end = first + VECTOR_BYTES;
+    work[first..end].copy_from_slice(&v);
+    true
 }

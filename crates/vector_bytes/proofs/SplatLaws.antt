@@ -4,14 +4,15 @@ use Prim.Native.Nat.{ℕ, zero, suc, ◌+◌, ◌*◌, ◌%◌, ◌^◌, ◌<◌
 use mathlib.Core.Path.{◌≡◌, refl, sym}
 use mathlib.Core.List.{List, ◌++◌, append_assoc}
 use native.Mathlib.Omega.{arith}
-use Rattle.rules.specs.Elements.{to_bytes}
+use Rattle.rules.specs.Elements.{to_bytes, modulus}
 use Rattle.rules.specs.Vectors.{lanes}
+use Rattle.theory.proofs.Numbers.{modulus_is}
 use Rattle.theory.proofs.ElementLaws.{to_bytes_mod, to_bytes_doubled}
 use Rattle.vector_elements.proofs.VectorLaws.{lanes_ext}
 
 -- a value cut to its width before it is repeated
-pub cut_lanes : (D n v : ℕ) → lanes n (λ k. to_bytes D (v % 256 ^ D)) ≡ lanes n (λ k. to_bytes D v)
-cut_lanes D n v = lanes_ext n (λ k. to_bytes D (v % 256 ^ D)) (λ k. to_bytes D v) (λ k l. to_bytes_mod D v)
+pub cut_lanes : (D n v : ℕ) → lanes n (λ k. to_bytes D (v % modulus D)) ≡ lanes n (λ k. to_bytes D v)
+cut_lanes D n v = lanes_ext n (λ k. to_bytes D (v % modulus D)) (λ k. to_bytes D v) (λ k l. rw modulus_is (to_bytes_mod D v))
 
 lanes_doubled : (n : ℕ) (x : List ℕ) → lanes n (λ k. x ++ x) ≡ lanes (n + n) (λ k. x)
 lanes_doubled zero x = refl

@@ -7,9 +7,9 @@ ghost use Rattle.rules.specs.Limits.{vector_bytes};
 ghost use Rattle.rules.specs.Units.{width_bytes};
 ghost use Rattle.rules.specs.Vectors.{vsplat, vshiftpair, vsplice};
 
-use rules::limits::{FOUR_MODULUS, ONE_MODULUS, TWO_MODULUS, V};
+use rules::limits::V;
 use rules::units::Width;
-use vector_elements::{EIGHTS, FOURS, TWOS, VECTOR_BYTES, Vector};
+use vector_elements::{Lane, VECTOR_BYTES, Vector};
 
 // The bytes of an element of eight.
 const HALF: u64 = 8;
@@ -40,28 +40,41 @@ pub fn vshiftpair(v1: Vector, v2: Vector, amount: u32) -> Vector
 {
     let at = (amount as u64) % V;
     let m = at % HALF;
-    let second = vector_elements::eight_at(&v1, 1);
-    let third = vector_elements::eight_at(&v2, 0);
+    let second: u64 = vector_elements::at(&v1, 1);
+    let third: u64 = vector_elements::at(&v2, 0);
     let middle = straddling(second, third, m);
     if at < HALF {
-        let first = vector_elements::eight_at(&v1, 0);
+        let first: u64 = vector_elements::at(&v1, 0);
         let lowest = straddling(first, second, m);
-        return vector_elements::join_eight([lowest, middle]);
+        return vector_elements::joined(lowest, middle);
     }
-    let fourth = vector_elements::eight_at(&v2, 1);
+    let fourth: u64 = vector_elements::at(&v2, 1);
     let highest = straddling(third, fourth, m);
-    vector_elements::join_eight([middle, highest])
+    vector_elements::joined(middle, highest)
 }
 
 // The first bytes of v1, as many as the amount says, and the rest of v2; from 16 on all of v1. Every byte is chosen by its own
 // test: a loop that stops at the amount would go byte by byte.
+#[tactic(auto, using(crate::proofs::SpliceLaws::spliced))]
 pub fn vsplice(v1: Vector, v2: Vector, amount: u32) -> Vector
     ensures { result ≡ vsplice v1 v2 amount }
 {
-    let stop = amount as usize;
+    let stop = (amount as usize).min(VECTOR_BYTES) as u8;
     let mut r = [0u8; VECTOR_BYTES];
     for i in 0..VECTOR_BYTES {
-        r[i] = if i < stop { v1[i] } else { v2[i] };
+        r[i] = if (i as u8) < stop { v1[i] } else { v2[i] };
+    }
+    r
+}
+
+// The value in every element of E, cut to its width.
+fn splat<E: Lane>(value: u64) -> Vector
+    ensures { result ≡ vsplat vector_bytes E.BYTES value }
+{
+    let x = E::cut(value);
+    let mut r = [0u8; VECTOR_BYTES];
+    for k in 0..vector_elements::count::<E>() {
+        vector_elements::put(&mut r, k, x);
     }
     r
 }
@@ -71,9 +84,9 @@ pub fn vsplat(width: Width, value: u64) -> Vector
     ensures { result ≡ vsplat vector_bytes (width_bytes width) value }
 {
     match width {
-        Width::One => [(value % ONE_MODULUS) as u8; VECTOR_BYTES],
-        Width::Two => vector_elements::join_two([(value % TWO_MODULUS) as u16; TWOS]),
-        Width::Four => vector_elements::join_four([(value % FOUR_MODULUS) as u32; FOURS]),
-        Width::Eight => vector_elements::join_eight([value; EIGHTS]),
+        Width::One => splat::<u8>(value),
+        Width::Two => splat::<u16>(value),
+        Width::Four => splat::<u32>(value),
+        Width::Eight => splat::<u64>(value),
     }
 }

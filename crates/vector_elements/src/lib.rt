@@ -1,132 +1,114 @@
-// Vectors of sixteen bytes and their elements: read by number, lowest byte first, and joined to a vector again. An element of
-// d + e bytes is read from one of d and one of e, so one law proves every width. Vectors that are read are lent: the compiler
-// reads a lent vector in place, and handed over by value it would be copied and taken apart.
+// Vectors of sixteen bytes and their elements: read by number, lowest byte first, and put into a vector again, at every width by
+// one function. Vectors that are read are lent: the compiler reads a lent vector in place, and handed over by value it would be
+// copied and taken apart.
 #![tactic(auto)]
 
-ghost use Rattle.std.specs.Prelude.{◌≡◌, ◌*◌, ◌%◌, ◌<◌, get_or};
-ghost use Rattle.rules.specs.Elements.{element, to_bytes};
-ghost use Rattle.rules.specs.Vectors.{lanes};
+ghost use Rattle.std.specs.Prelude.{◌≡◌, ◌+◌, ◌*◌, ◌/◌, ◌%◌, ◌≤◌, ◌++◌, length};
+ghost use Rattle.std.proofs.Math.Seq.{paste};
+ghost use Rattle.rules.specs.Limits.{vector_bytes};
+ghost use Rattle.rules.specs.Elements.{element, of_bytes, to_bytes};
+
+use operations::elements::Element;
+use rules::limits::V;
 
 // V, the bytes of a vector.
-pub const VECTOR_BYTES: usize = 16;
+pub const VECTOR_BYTES: usize = V as usize;
 
 pub type Vector = [u8; VECTOR_BYTES];
 
-// The bytes of an element, and how many elements a vector has.
-const TWO: usize = 2;
+// An element as its bytes, the lowest first.
+pub trait Lane: Element {
+    fn read(bytes: &[u8]) -> Self
+        requires { length bytes.now ≡ Self.BYTES }
+        ensures { Self.value result ≡ of_bytes bytes.now };
 
-const FOUR: usize = 4;
-
-const EIGHT: usize = 8;
-
-pub const TWOS: usize = VECTOR_BYTES / TWO;
-
-pub const FOURS: usize = VECTOR_BYTES / FOUR;
-
-pub const EIGHTS: usize = VECTOR_BYTES / EIGHT;
-
-// An element of four or eight bytes has two halves.
-const HALVES: usize = 2;
-
-// 2^8, 2^16 and 2^32: how many values one byte, two and four have.
-const BYTE: u16 = 256;
-
-const TWO_BYTES: u32 = 65536;
-
-const FOUR_BYTES: u64 = 4294967296;
-
-fn wide_16(x: u8) -> u16
-    ensures { (result ≡ x) × (result < 256) }
-{
-    x as u16
+    fn write(self, bytes: &mut [u8])
+        requires { length bytes.old ≡ Self.BYTES }
+        ensures { bytes.new ≡ to_bytes Self.BYTES (Self.value self) };
 }
 
-fn wide_32(x: u16) -> u32
-    ensures { result ≡ x }
-{
-    x as u32
+impl Lane for u8 {
+    fn read(bytes: &[u8]) -> u8 {
+        bytes[0]
+    }
+
+    fn write(self, bytes: &mut [u8]) {
+        bytes[0] = self;
+    }
 }
 
-fn wide_64(x: u32) -> u64
-    ensures { result ≡ x }
-{
-    x as u64
+impl Lane for u16 {
+    fn read(bytes: &[u8]) -> u16 {
+        u16::from_le_bytes([bytes[0], bytes[1]])
+    }
+
+    fn write(self, bytes: &mut [u8]) {
+        bytes.copy_from_slice(&u16::to_le_bytes(self));
+    }
 }
 
-// Element k of a vector at each width; k goes modulo the elements that a vector has, so that every number is one.
-pub fn two_at(v: &Vector, k: usize) -> u16
-    ensures { result ≡ element 2 v.now (k % 8 * 2) }
-{
-    let at = k % TWOS * TWO;
-    let low = wide_16(v[at]);
-    let high = wide_16(v[at + 1]);
-    low + high * BYTE
+impl Lane for u32 {
+    fn read(bytes: &[u8]) -> u32 {
+        u32::from_le_bytes([bytes[0], bytes[1], bytes[2], bytes[3]])
+    }
+
+    fn write(self, bytes: &mut [u8]) {
+        bytes.copy_from_slice(&u32::to_le_bytes(self));
+    }
 }
 
-pub fn four_at(v: &Vector, k: usize) -> u32
-    ensures { result ≡ element 4 v.now (k % 4 * 4) }
-{
-    let half = k % FOURS * HALVES;
-    let low = wide_32(two_at(v, half));
-    let high = wide_32(two_at(v, half + 1));
-    low + high * TWO_BYTES
+impl Lane for u64 {
+    fn read(bytes: &[u8]) -> u64 {
+        u64::from_le_bytes([
+            bytes[0], bytes[1], bytes[2], bytes[3], bytes[4], bytes[5], bytes[6], bytes[7],
+        ])
+    }
+
+    fn write(self, bytes: &mut [u8]) {
+        bytes.copy_from_slice(&u64::to_le_bytes(self));
+    }
 }
 
-pub fn eight_at(v: &Vector, k: usize) -> u64
-    ensures { result ≡ element 8 v.now (k % 2 * 8) }
+// How many elements a vector has.
+pub fn count<E: Lane>() -> usize
+    ensures { result ≡ vector_bytes / E.BYTES }
 {
-    let half = k % EIGHTS * HALVES;
-    let low = wide_64(four_at(v, half));
-    let high = wide_64(four_at(v, half + 1));
-    low + high * FOUR_BYTES
+    VECTOR_BYTES / E::BYTES
 }
 
-pub fn join_two(x: [u16; TWOS]) -> Vector
-    ensures { result ≡ lanes 8 (λ i. to_bytes 2 (get_or x i 0)) }
+// Where element k begins in a vector; k goes modulo the elements that a vector has, so that every number is one.
+fn first_byte<E: Lane>(k: usize) -> usize
+    ensures first { result ≡ k % (vector_bytes / E.BYTES) * E.BYTES }
+    ensures fits { result + E.BYTES ≤ vector_bytes }
 {
-    [
-        (x[0] % BYTE) as u8,
-        (x[0] / BYTE % BYTE) as u8,
-        (x[1] % BYTE) as u8,
-        (x[1] / BYTE % BYTE) as u8,
-        (x[2] % BYTE) as u8,
-        (x[2] / BYTE % BYTE) as u8,
-        (x[3] % BYTE) as u8,
-        (x[3] / BYTE % BYTE) as u8,
-        (x[4] % BYTE) as u8,
-        (x[4] / BYTE % BYTE) as u8,
-        (x[5] % BYTE) as u8,
-        (x[5] / BYTE % BYTE) as u8,
-        (x[6] % BYTE) as u8,
-        (x[6] / BYTE % BYTE) as u8,
-        (x[7] % BYTE) as u8,
-        (x[7] / BYTE % BYTE) as u8,
-    ]
+    k % count::<E>() * E::BYTES
 }
 
-// Each width is joined over the one below.
-pub fn join_four(x: [u32; FOURS]) -> Vector
-    ensures { result ≡ lanes 4 (λ i. to_bytes 4 (get_or x i 0)) }
+// Element k of a vector.
+#[tactic(auto, unfolding(rules::specs::Elements::element))]
+pub fn at<E: Lane>(v: &Vector, k: usize) -> E
+    ensures { E.value result ≡ element E.BYTES v.now (k % (vector_bytes / E.BYTES) * E.BYTES) }
 {
-    join_two([
-        (x[0] % TWO_BYTES) as u16,
-        (x[0] / TWO_BYTES % TWO_BYTES) as u16,
-        (x[1] % TWO_BYTES) as u16,
-        (x[1] / TWO_BYTES % TWO_BYTES) as u16,
-        (x[2] % TWO_BYTES) as u16,
-        (x[2] / TWO_BYTES % TWO_BYTES) as u16,
-        (x[3] % TWO_BYTES) as u16,
-        (x[3] / TWO_BYTES % TWO_BYTES) as u16,
-    ])
+    let first = first_byte::<E>(k);
+    let end = first + E::BYTES;
+    E::read(&v[first..end])
 }
 
-pub fn join_eight(x: [u64; EIGHTS]) -> Vector
-    ensures { result ≡ lanes 2 (λ i. to_bytes 8 (get_or x i 0)) }
+// Element k of a vector is x from now on.
+pub fn put<E: Lane>(v: &mut Vector, k: usize, x: E)
+    ensures { v.new ≡ paste v.old (k % (vector_bytes / E.BYTES) * E.BYTES) (to_bytes E.BYTES (E.value x)) E.BYTES }
 {
-    join_four([
-        (x[0] % FOUR_BYTES) as u32,
-        (x[0] / FOUR_BYTES % FOUR_BYTES) as u32,
-        (x[1] % FOUR_BYTES) as u32,
-        (x[1] / FOUR_BYTES % FOUR_BYTES) as u32,
-    ])
+    let first = first_byte::<E>(k);
+    let end = first + E::BYTES;
+    x.write(&mut v[first..end]);
+}
+
+// Two elements of eight bytes, the lower first.
+pub fn joined(low: u64, high: u64) -> Vector
+    ensures { result ≡ to_bytes 8 low ++ to_bytes 8 high }
+{
+    let mut v = [0u8; VECTOR_BYTES];
+    put(&mut v, 0, low);
+    put(&mut v, 1, high);
+    v
 }

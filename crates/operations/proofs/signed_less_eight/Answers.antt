@@ -1,9 +1,0 @@
--- `signed_less_eight`: half a turn on, the order is that of the unsigned numbers.
-use Rattle.std.proofs.Common.{refl, rules}
-use Rattle.rules.specs.Elements.{modulus}
-use Rattle.operations.proofs.OperationLaws.{signed_order}
-use Rattle.operations.proofs.signed_less_eight.Goals as goal
-
-pub returns : goal.returns
-unfolding modulus
-returns c = signed_order 8 9223372036854775808 refl (search rules) (search rules) c.wrapping_add_u64-x_on.ensures.value c.wrapping_add_u64-y_on.ensures.value
