@@ -1,5 +1,5 @@
 -- One instruction as it is tried: a fault where a field is not known or a store reaches outside, else its one effect.
-use Prim.Native.Nat.{ℕ, zero, suc}
+use Prim.Native.Nat.{ℕ}
 use mathlib.Core.Path.{◌≡◌, refl}
 use mathlib.Core.Bool.{false, and-false}
 use mathlib.Core.List.{List, []}
@@ -8,10 +8,10 @@ use Rattle.rules.specs.Limits.{vector_bytes}
 use Rattle.rules.specs.Frames.{load_kind}
 use Rattle.rules.specs.Machine.{pair_kind, splice_kind, store_kind, fields_as, reaches_as, effect_as}
 use Rattle.rules.specs.declared.program.Instruction.{Instruction}
-use Rattle.machine_kinds.specs.Trying.{Tried, tried, try_as, any_width}
+use Rattle.machine_kinds.specs.Trying.{tried, try_as, any_width}
 
 module _ (k D : ℕ) (table : List ℕ) (j : ℕ) (i : Instruction) (regs : List (List ℕ)) (work : List ℕ) where
-  unknown_tried : fields_as k vector_bytes D i ≡ false → tried false regs work ≡ try_as k D table j i regs work
+  pub unknown_tried : fields_as k vector_bytes D i ≡ false → tried false regs work ≡ try_as k D table j i regs work
   unfolding try_as
   unknown_tried e = rw (e, and-false (reaches_as k vector_bytes (length work) j i))
 
@@ -31,22 +31,3 @@ module _ (k D : ℕ) (table : List ℕ) (j : ℕ) (i : Instruction) (regs : List
   pub store_by_bytes : try_as store_kind any_width [] j i regs work ≡ try_as store_kind D table j i regs work
   unfolding try_as fields_as effect_as
   store_by_bytes = refl
-
-  -- an instruction of kind k is tried as one
-  pub of_kind : (m : ℕ) → k ≡ m → (t : Tried) → t ≡ try_as m D table j i regs work → t ≡ try_as k D table j i regs work
-  of_kind m e t h = rw e h
-
-  pub no_kind : (k ≡ 1 → ⊥) → (k ≡ 2 → ⊥) → (k ≡ 3 → ⊥) → (k ≡ 4 → ⊥) → (k ≡ 5 → ⊥) → (k ≡ 6 → ⊥)
-      → tried false regs work ≡ try_as k D table j i regs work
-  unfolding fields_as
-  no_kind a b c d e f = unknown_tried (go k a b c d e f)
-    where
-      go : (m : ℕ) → (m ≡ 1 → ⊥) → (m ≡ 2 → ⊥) → (m ≡ 3 → ⊥) → (m ≡ 4 → ⊥) → (m ≡ 5 → ⊥) → (m ≡ 6 → ⊥) → fields_as m vector_bytes D i ≡ false
-      go zero a b c d e f = refl
-      go (suc zero) a b c d e f = absurd (a refl)
-      go (suc (suc zero)) a b c d e f = absurd (b refl)
-      go (suc (suc (suc zero))) a b c d e f = absurd (c refl)
-      go (suc (suc (suc (suc zero)))) a b c d e f = absurd (d refl)
-      go (suc (suc (suc (suc (suc zero))))) a b c d e f = absurd (e refl)
-      go (suc (suc (suc (suc (suc (suc zero)))))) a b c d e f = absurd (f refl)
-      go (suc (suc (suc (suc (suc (suc (suc m))))))) a b c d e f = refl

@@ -10,7 +10,7 @@ ghost use Rattle.placing.specs.Handing.{BareSheet, head_with, RowsPlaced};
 use crate::records::MovedNodes;
 use crate::rows::{Writer, write};
 use graph::Header;
-use placing_targets::moves_of;
+use placing_targets::moves_by;
 use rules::kinds::Rule;
 use rules::limits::{HEAD_COUNT, HEAD_D, HEAD_N, HEAD_S, V};
 use rules::nodes::Offset;
@@ -22,7 +22,7 @@ fn put_rows(rule: Rule, head: Header, nodes: &[u64], placed_nodes: &mut [u64]) -
     requires nodes_most_in_bounds { row_entries * nodes_most ≤ length placed_nodes.old }
     ensures { RowsPlaced (rule_number rule) (graph_in head nodes.now) placed_nodes.old placed_nodes.new result }
 {
-    let moves = moves_of(rule, head, nodes);
+    let moves = moves_by(rule, head, nodes);
     let sheet = MovedNodes::new(nodes, moves, head.count);
     let c = ByteOffset(head.store.0 % V);
     tables::clear(placed_nodes);

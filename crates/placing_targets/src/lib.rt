@@ -48,7 +48,7 @@ fn inputs_to(g: ByteOffset) -> Moves
 
 // Of a rule, for the nodes of a table.
 #[tactic(auto, unfolding(crate::specs::Rules::moves_of))]
-pub fn moves_of(rule: Rule, head: Header, nodes: &[u64]) -> Moves
+pub fn moves_by(rule: Rule, head: Header, nodes: &[u64]) -> Moves
     ensures { result ≡ moves_of vector_bytes head.store.0 (rule_number rule) (dominant_in vector_bytes head.store.0 (node_at nodes.now) head.count) }
 {
     let zero = ByteOffset(0);
@@ -59,4 +59,16 @@ pub fn moves_of(rule: Rule, head: Header, nodes: &[u64]) -> Moves
         Rule::Lazy => inputs_to(c),
         Rule::Dominant => inputs_to(dominant(head, nodes)),
     }
+}
+
+// Of a rule's number. One above the last is the last.
+#[tactic(auto, using(crate::proofs::RuleLaws::last_for_others))]
+pub fn moves_of(rule: u64, head: Header, nodes: &[u64]) -> Moves
+    ensures { result ≡ moves_of vector_bytes head.store.0 rule (dominant_in vector_bytes head.store.0 (node_at nodes.now) head.count) }
+{
+    moves_by(
+        Rule::try_from(rule).unwrap_or(Rule::Dominant),
+        head,
+        nodes,
+    )
 }

@@ -27,7 +27,7 @@ write-requires c =
     let sheet = c.requires.bare_sheet in
     let rule = rule_number c.args.rule in
     let count : g.N - 1 + 1 ≡ g.N = omega (arith, has_last g sheet) in
-    let last = last_rows g sheet rule _ made.recorded (made.moves_kept ∙ c.moves_of-moves.ensures) in
+    let last = last_rows g sheet rule _ made.recorded (made.moves_kept ∙ c.moves_by-moves.ensures) in
     record {
       ready = rw count (sheet_ready g sheet rule _ made.recorded made.inputs);
       room = omega (arith, placed_room g sheet rule, ap length last, c.new-rows.ensures.first_row);
@@ -40,7 +40,7 @@ returns c =
     let made = c.new-sheet.ensures in
     let sheet = c.requires.bare_sheet in
     let rule = rule_number c.args.rule in
-    let last = last_rows g sheet rule _ made.recorded (made.moves_kept ∙ c.moves_of-moves.ensures) in
+    let last = last_rows g sheet rule _ made.recorded (made.moves_kept ∙ c.moves_by-moves.ensures) in
     let handed =
     rows_handed len (place vector_bytes g.S rule (graph_tree g)) _ _ c.new-rows.ensures.first_row (c.new-rows.ensures.entries ∙ c.clear.ensures)
     (omega (arith, placed_room g sheet rule, c.requires.nodes_most_in_bounds)) (rw last at c.write.ensures) in
