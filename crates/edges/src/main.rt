@@ -2,7 +2,6 @@
 // dash: a name to the end of the line, then a text to the next dash or the end.
 #![tactic(auto)]
 
-use printing::Cases;
 use std::io;
 use std::io::Write;
 
@@ -10,24 +9,17 @@ use std::io::Write;
 const INPUT_MOST: usize = 65536;
 
 fn print_text<W: Write>(out: &mut W, text: &[u8]) -> io::Result<()> {
-    let drawn = printing::drawn(text);
-    out.write_all(&drawn)?;
-    let placed = printing::places(text);
-    out.write_all(&placed)
+    out.write_all(&printing::drawn(text))?;
+    out.write_all(&printing::places(text))
 }
 
 fn print_cases<W: Write>(out: &mut W, input: &[u8]) -> io::Result<()> {
     let mut at = 0;
-    loop {
-        let found = printing::case_at(input, at);
-        let Cases::Next(case) = found else {
-            return Ok(());
-        };
-        let start = case.start;
-        let past = case.past;
-        print_text(out, &input[start..past])?;
-        at = past;
+    while let Some(case) = printing::case_at(input, at) {
+        print_text(out, &input[case.start..case.past])?;
+        at = case.past;
     }
+    Ok(())
 }
 
 fn main(rt: HostRuntime) -> io::Result<()> {

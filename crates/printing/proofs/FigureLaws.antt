@@ -1,14 +1,14 @@
 -- The figures that are taken from tables are those of the definitions: of every refusal, of a drawn graph that is translated, and of
 -- a bare sheet that is placed and translated.
-use Prim.Native.Nat.{ℕ, ◌+◌, ◌-◌, ◌*◌, ◌≤◌}
+use Prim.Native.Nat.{ℕ, zero, suc, ◌+◌, ◌-◌, ◌*◌, ◌≤◌, ◌<◌}
 use mathlib.Core.Path.{◌≡◌, refl, sym, ap, ◌∙◌}
 use mathlib.Core.Bool.{true, false, ◌||◌}
 use mathlib.Core.List.{List, [], ◌∷◌}
-use native.Mathlib.Nat.{mul-le-mul, zero-mul}
 use native.Mathlib.Omega.{arith}
 use lib.ListN.{replicate}
-use Rattle.rules.specs.Limits.{vector_bytes, elements_most, nodes_most, section_most, window_most, long_most, head_entries, row_entries}
-use Rattle.rules.specs.Answers.{Answer, DONE, done, first, of_read, of_translate, of_plan}
+use Rattle.std.specs.Prelude.{Result, Ok, Err, ⊤}
+use Rattle.rules.specs.Limits.{vector_bytes, elements_most, nodes_most, window_most, long_most, head_entries, row_entries}
+use Rattle.rules.specs.Answers.{Answer, DONE, done, first, or_else, of_refusal, of_result}
 use Rattle.rules.specs.Units.{is_width}
 use Rattle.rules.specs.Trees.{Tree, shifts, node_at, rows}
 use Rattle.rules.specs.Placing.{place}
@@ -16,15 +16,10 @@ use Rattle.rules.specs.Code.{G, full_vectors, steps_of}
 use Rattle.rules.specs.Tables.{Graph, graph_of, head_of, program_head, padded}
 use Rattle.rules.specs.Checks.{head_short, nodes_short}
 use Rattle.rules.specs.Calls.{WithSheet, WithProgram, checking, graph_tree, graph_program, placed_graph, placing, bare_checks, translate_answer, translating, planning}
-use Rattle.rules.specs.Printing.{figures, section, placed_figures, drawn_figures}
+use Rattle.rules.specs.Printing.{figures, figures_by, section, placed_figures, drawn_figures}
 use Rattle.rules.specs.declared.program.ProgramHead.{ProgramHead}
-use Rattle.rules.specs.declared.answers.ReadAnswer.{ReadAnswer}
-use Rattle.rules.specs.declared.answers.ReadAnswer.TheVariants as Read
-use Rattle.rules.specs.declared.answers.PlaceAnswer.{PlaceAnswer}
-use Rattle.rules.specs.declared.answers.TranslateAnswer.{TranslateAnswer}
-use Rattle.rules.specs.declared.answers.TranslateAnswer.TheVariants as Translate
-use Rattle.rules.specs.declared.answers.PlanAnswer.{PlanAnswer}
-use Rattle.rules.specs.declared.answers.PlanAnswer.TheVariants as Plan
+use Rattle.rules.specs.declared.answers.Refusal.{Refusal}
+use Rattle.theory.proofs.AnswerLaws.{refusal_not_done}
 use Rattle.theory.proofs.RowLaws.{padded_rows_read_back}
 use Rattle.theory.proofs.FormLaws.{Formed, each_check_done, refuse_done, passes_formed, formed_passes}
 use Rattle.theory.proofs.Checked.{sixteen, width_is, head_passes, long_done}
@@ -40,23 +35,12 @@ use Rattle.graph_size.specs.Sizing.{capped, size_of}
 use Rattle.graph_size.proofs.SizeLaws.{checked_size}
 use Rattle.placing.specs.Handing.{sheet_given}
 use Rattle.translating.specs.Programs.{program_given}
-use Rattle.translating.specs.declared.Translated.{Translated}
 use Rattle.planning.specs.Planning.{plan_given}
-use Rattle.planning.specs.declared.Planned.{Planned}
 use Rattle.planning.proofs.PlanLaws.{placing_is}
 use Rattle.printing.specs.Figuring.{refusal, shifts_in, steps_in, Countable, tree_figures}
 use Rattle.printing.proofs.ShiftLaws.{tree_shifts}
 
 -- ---- the steps
-
-pub few_body_steps : (p : ProgramHead) → Countable p → (p.f - 1) * p.body ≤ window_most * section_most
-few_body_steps p c =
-    let f : p.f - 1 ≤ window_most = omega (arith, c.full) in
-    let b : p.body ≤ section_most = c.body in
-    mul-le-mul f b
-
-pub no_body_steps : (p : ProgramHead) → p.f ≡ 0 → p.prologue + p.epilogue ≡ steps_in p
-no_body_steps p e = rw (e, zero-mul) (omega arith)
 
 full_few : (n S : ℕ) → n ≤ elements_most → (D : ℕ) → is_width D ≡ true → full_vectors vector_bytes D n S ≤ window_most
 full_few n S h =
@@ -64,44 +48,29 @@ full_few n S h =
 
 -- ---- refusals
 
--- "a reading refusal stands on all four lines": whatever the call after it would answer
-read_stands : (a : ReadAnswer) → (a ≡ Read.Done → ⊥) → (later : Answer) (g : Graph) (t : Tree)
-    → refusal (of_read a) ≡ figures (first (of_read a ∷ later ∷ [])) g t
+-- a refusal is the first of its checks, whatever comes after it, and its line has no figures
+first_of : (r : Refusal) (later : List Answer) → first (of_refusal r ∷ later) ≡ of_refusal r
 unfolding first
-read_stands Read.Done h later g t = absurd (h refl)
-read_stands Read.Room h later g t = refl
-read_stands (Read.Line k) h later g t = refl
-read_stands (Read.Range k) h later g t = refl
-read_stands (Read.Shape k) h later g t = refl
+first_of r later = go (of_refusal r).number (refusal_not_done r)
+  where
+    go : (n : ℕ) → DONE < n → or_else n (of_refusal r) (first later) ≡ of_refusal r
+    go zero p = absurd (omega arith)
+    go (suc n) p = refl
 
-translate_stands : (a : TranslateAnswer) → (a ≡ Translate.Done → ⊥) → (g : Graph) (t : Tree)
-    → refusal (of_translate a) ≡ figures (first (done ∷ of_translate a ∷ [])) g t
-unfolding first
-translate_stands Translate.Done h g t = absurd (h refl)
-translate_stands Translate.Room h g t = refl
-translate_stands (Translate.Range k) h g t = refl
-translate_stands (Translate.Shape k) h g t = refl
-translate_stands (Translate.Window k) h g t = refl
-translate_stands (Translate.Align k) h g t = refl
-translate_stands (Translate.Bounds k) h g t = refl
-translate_stands (Translate.Carry k) h g t = refl
-translate_stands (Translate.Offset k) h g t = refl
-translate_stands Translate.Long h g t = refl
+no_figures : (r : Refusal) (g : Graph) (t : Tree) → refusal (of_refusal r) ≡ figures (of_refusal r) g t
+no_figures r g t = go (of_refusal r).number (refusal_not_done r)
+  where
+    go : (n : ℕ) → DONE < n → refusal (of_refusal r) ≡ figures_by n (of_refusal r) g t
+    go zero p = absurd (omega arith)
+    go (suc n) p = refl
 
-plan_stands : (a : PlanAnswer) → (a ≡ Plan.Done → ⊥) → (g : Graph) (t : Tree)
-    → refusal (of_plan a) ≡ figures (first (done ∷ of_plan a ∷ [])) g t
+-- "a reading refusal stands on all four lines"
+read_stands : (r : Refusal) (later : Answer) (g : Graph) (t : Tree) → refusal (of_refusal r) ≡ figures (first (of_refusal r ∷ later ∷ [])) g t
+read_stands r later g t = rw (first_of r (later ∷ [])) (no_figures r g t)
+
+call_stands : (r : Refusal) (g : Graph) (t : Tree) → refusal (of_refusal r) ≡ figures (first (done ∷ of_refusal r ∷ [])) g t
 unfolding first
-plan_stands Plan.Done h g t = absurd (h refl)
-plan_stands Plan.Room h g t = refl
-plan_stands (Plan.Range k) h g t = refl
-plan_stands (Plan.Shape k) h g t = refl
-plan_stands (Plan.Bare k) h g t = refl
-plan_stands (Plan.Window k) h g t = refl
-plan_stands (Plan.Align k) h g t = refl
-plan_stands (Plan.Bounds k) h g t = refl
-plan_stands (Plan.Carry k) h g t = refl
-plan_stands (Plan.Offset k) h g t = refl
-plan_stands Plan.Long h g t = refl
+call_stands r g t = rw (first_of r []) (no_figures r g t)
 
 -- ---- a graph that translating does not refuse
 
@@ -157,34 +126,34 @@ module _ (head nodes : List ℕ) where
   abbrev drawn_call : WithProgram
   drawn_call = translating vector_bytes head nodes window_most window_most section section section
 
-  pub drawn_unread : (a : ReadAnswer) → (a ≡ Read.Done → ⊥) → refusal (of_read a) ≡ drawn_figures (sheet_left a head nodes)
+  pub drawn_unread : (r : Refusal) → refusal (of_refusal r) ≡ drawn_figures (sheet_left (Err r) head nodes)
   unfolding drawn_figures
-  drawn_unread a h = read_stands a h _ _ _
+  drawn_unread r = read_stands r _ _ _
 
-  module _ (r : Translated) {prologue body epilogue : List ℕ} (given : program_given r prologue body epilogue ≡ drawn_call) where
-    answered : drawn_call.answer ≡ of_translate r.answer
+  module _ (program : Result ProgramHead Refusal) {prologue body epilogue : List ℕ}
+      (given : program_given program prologue body epilogue ≡ drawn_call) where
+    answered : drawn_call.answer ≡ of_result program
     answered = sym (ap (λ (x : WithProgram). x.answer) given)
 
-    pub drawn_refused : (r.answer ≡ Translate.Done → ⊥)
-        → refusal (of_translate r.answer) ≡ drawn_figures (sheet_left Read.Done head nodes)
+    pub drawn_refused : (r : Refusal) → program ≡ Err r → refusal (of_refusal r) ≡ drawn_figures (sheet_left (Ok tt) head nodes)
     unfolding drawn_figures
-    drawn_refused h = rw answered (translate_stands r.answer h _ _)
+    drawn_refused r is = rw (answered, is) (call_stands r _ _)
 
-    module _ (is_done : r.answer ≡ Translate.Done) where
+    module _ (made : ProgramHead) (is : program ≡ Ok made) where
       number : (translate_answer vector_bytes head nodes window_most window_most section section section).number ≡ DONE
       unfolding translating
-      number = ap (λ (a : Answer). a.number) answered ∙ rw is_done
+      number = ap (λ (a : Answer). a.number) answered ∙ rw is
 
-      head_made : r.head ≡ program_head (graph_of head nodes).D (graph_program vector_bytes (graph_of head nodes))
+      head_made : made ≡ program_head (graph_of head nodes).D (graph_program vector_bytes (graph_of head nodes))
       unfolding translating
-      head_made = ap (λ (x : WithProgram). x.head) given ∙ rw number
+      head_made = rw is at (ap (λ (x : WithProgram). x.head) given) ∙ rw number
 
-      pub drawn_countable : Countable r.head
+      pub drawn_countable : Countable made
       drawn_countable = rw head_made (program_countable head nodes window_most window_most section section section number)
 
-      pub drawn_told : tree_figures head nodes r.head ≡ drawn_figures (sheet_left Read.Done head nodes)
+      pub drawn_told : tree_figures head nodes made ≡ drawn_figures (sheet_left (Ok tt) head nodes)
       unfolding drawn_figures first
-      drawn_told = rw (head_made, answered, is_done) (tables_told head nodes window_most window_most section section section number)
+      drawn_told = rw (head_made, answered, is) (tables_told head nodes window_most window_most section section section number)
 
 -- ---- the loop placed by a rule
 
@@ -192,26 +161,25 @@ module _ (head nodes : List ℕ) (rule : ℕ) where
   abbrev placed_call : WithProgram
   placed_call = planning vector_bytes rule head nodes window_most window_most section section section
 
-  pub placed_unread : (a : ReadAnswer) → (a ≡ Read.Done → ⊥)
-      → refusal (of_read a) ≡ placed_figures (sheet_left a head nodes) rule
+  pub placed_unread : (r : Refusal) → refusal (of_refusal r) ≡ placed_figures (sheet_left (Err r) head nodes) rule
   unfolding placed_figures
-  placed_unread a h = read_stands a h _ _ _
+  placed_unread r = read_stands r _ _ _
 
-  module _ (r : Planned) {prologue body epilogue : List ℕ} (given : plan_given r prologue body epilogue ≡ placed_call) where
-    planned : placed_call.answer ≡ of_plan r.answer
+  module _ (program : Result ProgramHead Refusal) {prologue body epilogue : List ℕ}
+      (given : plan_given program prologue body epilogue ≡ placed_call) where
+    planned : placed_call.answer ≡ of_result program
     planned = sym (ap (λ (x : WithProgram). x.answer) given)
 
-    pub placed_refused : (r.answer ≡ Plan.Done → ⊥)
-        → refusal (of_plan r.answer) ≡ placed_figures (sheet_left Read.Done head nodes) rule
+    pub placed_refused : (r : Refusal) → program ≡ Err r → refusal (of_refusal r) ≡ placed_figures (sheet_left (Ok tt) head nodes) rule
     unfolding placed_figures
-    placed_refused h = rw planned (plan_stands r.answer h _ _)
+    placed_refused r is = rw (planned, is) (call_stands r _ _)
 
-    module _ (is_done : r.answer ≡ Plan.Done) (step : PlaceAnswer) {head' nodes' : List ℕ}
+    module _ (made : ProgramHead) (is : program ≡ Ok made) (step : Result ⊤ Refusal) {head' nodes' : List ℕ}
         (tables : sheet_given step head' nodes' ≡ placing vector_bytes rule head nodes (replicate head_entries 0) (replicate (row_entries * nodes_most) 0)) where
       fine : first (bare_checks vector_bytes rule head nodes window_most window_most section section section) ≡ done
       unfolding planning
       fine =
-          sym (planned_unrefused vector_bytes sixteen rule head nodes window_most window_most section section section) ∙ planned ∙ rw is_done
+          sym (planned_unrefused vector_bytes sixteen rule head nodes window_most window_most section section section) ∙ planned ∙ rw is
 
       abbrev bare : Graph
       bare = graph_of head nodes
@@ -231,6 +199,12 @@ module _ (head nodes : List ℕ) (rule : ℕ) where
       placed_tables : sheet_given step head' nodes' ≡ record { answer = done; head = placed_head; nodes = placed_nodes }
       placed_tables = tables ∙ placing_is rule head nodes window_most window_most section section section fine
 
+      -- what was planned is placed
+      pub placed_never_refused : (r : Refusal) → step ≡ Err r → ⊥
+      placed_never_refused r e =
+          let n : (of_refusal r).number ≡ DONE = ap (λ (a : Answer). a.number) (rw e at (ap (λ (x : WithSheet). x.answer) placed_tables)) in
+          absurd (omega (arith, refusal_not_done r))
+
       same_program : translating vector_bytes placed_head placed_nodes window_most window_most section section section ≡ placed_call
       same_program =
           placed_translates vector_bytes sixteen rule head nodes section section section head_entries (row_entries * nodes_most)
@@ -238,24 +212,24 @@ module _ (head nodes : List ℕ) (rule : ℕ) where
 
       translates : (translate_answer vector_bytes placed_head placed_nodes window_most window_most section section section).number ≡ DONE
       unfolding translating
-      translates = ap (λ (x : WithProgram). x.answer.number) same_program ∙ ap (λ (a : Answer). a.number) planned ∙ rw is_done
+      translates = ap (λ (x : WithProgram). x.answer.number) same_program ∙ ap (λ (a : Answer). a.number) planned ∙ rw is
 
-      program_made : r.head ≡ program_head placed.D (graph_program vector_bytes placed)
+      program_made : made ≡ program_head placed.D (graph_program vector_bytes placed)
       unfolding translating
-      program_made = ap (λ (x : WithProgram). x.head) (given ∙ sym same_program) ∙ rw translates
+      program_made = rw is at (ap (λ (x : WithProgram). x.head) (given ∙ sym same_program)) ∙ rw translates
 
       -- the tables' graph is the bare one's loop with the placed tree
       placed_figures_lem : figures done placed (graph_tree placed) ≡ figures done bare tree
       unfolding padded
       placed_figures_lem = rw (padded_rows_read_back (row_entries * nodes_most) tree)
 
-      pub placed_countable : Countable r.head
+      pub placed_countable : Countable made
       placed_countable = rw program_made (program_countable placed_head placed_nodes window_most window_most section section section translates)
 
-      pub placed_told : tree_figures head' nodes' r.head ≡ placed_figures (sheet_left Read.Done head nodes) rule
+      pub placed_told : tree_figures head' nodes' made ≡ placed_figures (sheet_left (Ok tt) head nodes) rule
       unfolding placed_figures first
       placed_told =
           let h : head' ≡ placed_head = ap (λ (x : WithSheet). x.head) placed_tables in
           let n : nodes' ≡ placed_nodes = ap (λ (x : WithSheet). x.nodes) placed_tables in
-          rw (h, n, program_made, planned, is_done)
+          rw (h, n, program_made, planned, is)
           (tables_told placed_head placed_nodes window_most window_most section section section translates ∙ placed_figures_lem)

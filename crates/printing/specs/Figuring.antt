@@ -1,8 +1,9 @@
 -- The figures of a line as they are taken from tables: of a refusal, and of a graph with its program.
-use Rattle.std.specs.Prelude.{ℕ, zero, suc, ◌+◌, ◌-◌, ◌*◌, ◌≤◌, List}
+use Rattle.std.specs.Prelude.{ℕ, zero, suc, ◌+◌, ◌-◌, ◌*◌, ◌≤◌, List, Result, Ok, Err}
 use Rattle.rules.specs.Limits.{section_most, window_most}
-use Rattle.rules.specs.Answers.{Answer, DONE}
+use Rattle.rules.specs.Answers.{Answer, DONE, of_refusal}
 use Rattle.rules.specs.Trees.{node_at}
+use Rattle.rules.specs.declared.answers.Refusal.{Refusal}
 use Rattle.rules.specs.declared.nodes.Node.{Node}
 use Rattle.rules.specs.declared.nodes.Node.TheVariants.{Load, Splat, Op, Shift}
 use Rattle.rules.specs.declared.program.ProgramHead.{ProgramHead}
@@ -12,6 +13,11 @@ use Rattle.graph_size.specs.Sizing.{size_of}
 
 abbrev pub refusal : Answer → Figures
 refusal answer = record { answer = answer.number; place = answer.place; shifts = 0; size = 0; steps = 0 }
+
+-- what a line says: the figures, or the refusal
+abbrev pub told : Result Figures Refusal → Figures
+told (Ok figures) = figures
+told (Err r) = refusal (of_refusal r)
 
 abbrev pub shift_of : Node → ℕ
 shift_of (Load a) = 0

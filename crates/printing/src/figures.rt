@@ -4,26 +4,31 @@ ghost use Rattle.std.specs.Prelude.{◌≡◌};
 ghost use Rattle.rules.specs.Trees.{node_at};
 ghost use Rattle.rules.specs.Printing.{placed_figures, drawn_figures};
 ghost use Rattle.sheet.specs.Left.{sheet_left};
-ghost use Rattle.answers.specs.Given.{answer_of};
-ghost use Rattle.printing.specs.Figuring.{refusal, shift_of, shifts_in, steps_in, Countable, tree_figures};
+ghost use Rattle.printing.specs.Figuring.{told, shift_of, shifts_in, steps_in, Countable, tree_figures};
 
 use answers::{DONE, Numbered};
-use rules::answers::{PlanAnswer, ReadAnswer, TranslateAnswer};
+use rules::answers::Refusal;
 use rules::limits::{HEAD_ENTRIES, NODE_ENTRIES, SECTION_ENTRIES, WINDOW_MOST};
 use rules::nodes::Node;
 use rules::printing::Figures;
 use rules::program::ProgramHead;
 
-// What a refusal prints: its number and its place alone.
-fn refusal(answer: Numbered) -> Figures
-    ensures { result ≡ refusal (answer_of answer) }
+// What a line says of a loop: its figures, or a refusal's number and place alone.
+pub(crate) fn told(figures: Result<Figures, Refusal>) -> Figures
+    ensures { result ≡ told figures }
 {
-    Figures {
-        answer: answer.number,
-        place: answer.place,
-        shifts: 0,
-        size: 0,
-        steps: 0,
+    match figures {
+        Ok(figures) => figures,
+        Err(refusal) => {
+            let answer = Numbered::from(refusal);
+            Figures {
+                answer: answer.number,
+                place: answer.place,
+                shifts: 0,
+                size: 0,
+                steps: 0,
+            }
+        }
     }
 }
 
@@ -32,21 +37,17 @@ fn shift_of(node: Node) -> u64
     ensures { result ≡ shift_of node }
 {
     match node {
-        Node::Load(_) => 0,
-        Node::Splat(_) => 0,
-        Node::Op(_) => 0,
         Node::Shift(_) => 1,
+        _ => 0,
     }
 }
 
 fn count_shifts(nodes: &[u64], count: u8) -> u64
     ensures { result ≡ shifts_in (node_at nodes.now) count }
 {
-    let mut shifts: u64 = 0;
-    let mut k: u8 = 0;
-    while k < count {
-        shifts = shifts + shift_of(tables::node_at(nodes, k));
-        k = k + 1;
+    let mut shifts = 0;
+    for k in 0..count {
+        shifts += shift_of(tables::node_at(nodes, k));
     }
     shifts
 }
@@ -55,12 +56,7 @@ fn count_steps(program: ProgramHead) -> u64
     requires { Countable program }
     ensures { result ≡ steps_in program }
 {
-    let full = program.f;
-    let ends = program.prologue + program.epilogue;
-    if full == 0 {
-        return ends;
-    }
-    ends + (full - 1) * program.body
+    program.prologue + program.f.saturating_sub(1) * program.body + program.epilogue
 }
 
 fn tree_figures(head: &[u64], nodes: &[u64], program: ProgramHead) -> Figures
@@ -74,19 +70,21 @@ fn tree_figures(head: &[u64], nodes: &[u64], program: ProgramHead) -> Figures
     Figures {
         answer: DONE,
         place: 0,
-        shifts: shifts,
-        size: size,
-        steps: steps,
+        shifts,
+        size,
+        steps,
     }
 }
 
 // Of the loop as it is drawn: what reading answered, else translating.
-pub(crate) fn drawn_figures(answer: ReadAnswer, head: &[u64], nodes: &[u64]) -> Figures
-    ensures { result ≡ drawn_figures (sheet_left answer head.now nodes.now) }
+pub(crate) fn drawn_figures(
+    answer: Result<(), Refusal>,
+    head: &[u64],
+    nodes: &[u64],
+) -> Result<Figures, Refusal>
+    ensures { told result ≡ drawn_figures (sheet_left answer head.now nodes.now) }
 {
-    let ReadAnswer::Done = answer else {
-        return refusal(answers::of_read(answer));
-    };
+    answer?;
     let mut prologue = [0u32; SECTION_ENTRIES];
     let mut body = [0u32; SECTION_ENTRIES];
     let mut epilogue = [0u32; SECTION_ENTRIES];
@@ -98,22 +96,20 @@ pub(crate) fn drawn_figures(answer: ReadAnswer, head: &[u64], nodes: &[u64]) -> 
         &mut prologue,
         &mut body,
         &mut epilogue,
-    );
-    let translated = program.answer;
-    let TranslateAnswer::Done = translated else {
-        return refusal(answers::of_translate(translated));
-    };
-    let made = program.head;
-    tree_figures(head, nodes, made)
+    )?;
+    Ok(tree_figures(head, nodes, program))
 }
 
 // Of the loop placed by a rule: what reading answered, else the one-step call; and the placed tables.
-pub(crate) fn placed_figures(answer: ReadAnswer, head: &[u64], nodes: &[u64], rule: u64) -> Figures
-    ensures { result ≡ placed_figures (sheet_left answer head.now nodes.now) rule }
+pub(crate) fn placed_figures(
+    answer: Result<(), Refusal>,
+    head: &[u64],
+    nodes: &[u64],
+    rule: u64,
+) -> Result<Figures, Refusal>
+    ensures { told result ≡ placed_figures (sheet_left answer head.now nodes.now) rule }
 {
-    let ReadAnswer::Done = answer else {
-        return refusal(answers::of_read(answer));
-    };
+    answer?;
     let mut prologue = [0u32; SECTION_ENTRIES];
     let mut body = [0u32; SECTION_ENTRIES];
     let mut epilogue = [0u32; SECTION_ENTRIES];
@@ -126,14 +122,9 @@ pub(crate) fn placed_figures(answer: ReadAnswer, head: &[u64], nodes: &[u64], ru
         &mut prologue,
         &mut body,
         &mut epilogue,
-    );
-    let planned = program.answer;
-    let PlanAnswer::Done = planned else {
-        return refusal(answers::of_plan(planned));
-    };
+    )?;
     let mut placed_head = [0u64; HEAD_ENTRIES];
     let mut placed_nodes = [0u64; NODE_ENTRIES];
-    placing::place(rule, head, nodes, &mut placed_head, &mut placed_nodes);
-    let made = program.head;
-    tree_figures(&placed_head, &placed_nodes, made)
+    placing::place(rule, head, nodes, &mut placed_head, &mut placed_nodes)?;
+    Ok(tree_figures(&placed_head, &placed_nodes, program))
 }

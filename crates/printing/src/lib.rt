@@ -12,8 +12,9 @@ ghost use Rattle.rules.specs.Calls.{reading};
 ghost use Rattle.rules.specs.Printing.{printed, drawn};
 ghost use Rattle.sheet.specs.Left.{sheet_left};
 
-pub use cases::{Case, Cases, case_at};
-use rules::answers::ReadAnswer;
+pub use cases::{Case, case_at};
+use figures::told;
+use rules::answers::Refusal;
 use rules::limits::{HEAD_ENTRIES, NODE_ENTRIES, TEXT_MOST};
 
 const RULES: usize = 4;
@@ -25,13 +26,11 @@ const LINE: usize = 21;
 const DRAWN: u64 = 255;
 
 // Reads the first bytes of a text.
-fn read_start(text: &[u8], head: &mut [u64], nodes: &mut [u64]) -> ReadAnswer
+fn read_start(text: &[u8], head: &mut [u64], nodes: &mut [u64]) -> Result<(), Refusal>
     ensures { sheet_left result head.new nodes.new ≡ reading (take text_most text.now) head.old nodes.old }
 {
-    if text.len() < TEXT_MOST {
-        return sheet::read(text, head, nodes);
-    }
-    sheet::read(&text[..TEXT_MOST], head, nodes)
+    let most = text.len().min(TEXT_MOST);
+    sheet::read(&text[..most], head, nodes)
 }
 
 // The four lines of `places`.
@@ -42,12 +41,10 @@ pub fn places(text: &[u8]) -> [u8; 84]
     let mut nodes = [0u64; NODE_ENTRIES];
     let answer = read_start(text, &mut head, &mut nodes);
     let mut out = [0u8; RULES * LINE];
-    let mut rule: usize = 0;
-    while rule < RULES {
+    for rule in 0..RULES {
         let label = rule as u64;
         let figures = figures::placed_figures(answer, &head, &nodes, label);
-        lines::put_line(&mut out, rule * LINE, label, figures);
-        rule = rule + 1;
+        lines::put_line(&mut out, rule * LINE, label, told(figures));
     }
     out
 }
@@ -61,6 +58,6 @@ pub fn drawn(text: &[u8]) -> [u8; 21]
     let answer = read_start(text, &mut head, &mut nodes);
     let figures = figures::drawn_figures(answer, &head, &nodes);
     let mut out = [0u8; LINE];
-    lines::put_line(&mut out, 0, DRAWN, figures);
+    lines::put_line(&mut out, 0, DRAWN, told(figures));
     out
 }

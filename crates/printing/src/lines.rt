@@ -1,5 +1,5 @@
 // A printed line: ten bytes as upper-case hexadecimal, and a line feed.
-ghost use Rattle.std.specs.Prelude.{◌≡◌, [], ◌∷◌, ◌++◌, ◌+◌, ◌*◌, ◌/◌, ◌%◌, ◌≤◌, ◌<◌, length};
+ghost use Rattle.std.specs.Prelude.{◌≡◌, [], ◌∷◌, ◌++◌, ◌+◌, ◌*◌, ◌≤◌, ◌<◌, length};
 ghost use Rattle.std.proofs.lemmas.List.Edits.{sets};
 ghost use Rattle.rules.specs.Printing.{digit_byte, hex, line_feed, line_bytes, line};
 ghost use Rattle.printing.specs.Lines.{line_length};
@@ -7,55 +7,34 @@ ghost use Rattle.printing.specs.Lines.{line_length};
 use rules::limits::LINE_FEED;
 use rules::printing::Figures;
 
-// What a digit of 0 to 9 has added, and one of A to F.
-const DECIMAL: u8 = 48;
-
-const LETTER: u8 = 55;
-
 const RADIX: u8 = 16;
 
-const BYTE: u64 = 256;
+const TEN: u8 = 10;
 
+#[tactic(auto, unfolding(rules::specs::Printing::digit_byte))]
 fn digit_byte(digit: u8) -> u8
     requires { digit < 16 }
     ensures { result ≡ digit_byte digit }
 {
-    if digit < 10 {
-        digit + DECIMAL
+    if digit < TEN {
+        b'0' + digit
     } else {
-        digit + LETTER
+        b'A' + (digit - TEN)
     }
-}
-
-fn high_digit(byte: u8) -> u8
-    ensures { result ≡ digit_byte (byte / 16) }
-{
-    digit_byte(byte / RADIX)
-}
-
-fn low_digit(byte: u8) -> u8
-    ensures { result ≡ digit_byte (byte % 16) }
-{
-    digit_byte(byte % RADIX)
 }
 
 // The fields in their order, the most significant byte first.
 fn line_bytes(label: u64, f: Figures) -> [u8; 10]
     ensures { result ≡ line_bytes label f }
 {
-    let steps_over_256 = f.steps / BYTE;
-    let steps_over_65536 = steps_over_256 / BYTE;
+    let [.., label] = label.to_be_bytes();
+    let [.., answer] = f.answer.to_be_bytes();
+    let [.., place] = f.place.to_be_bytes();
+    let [.., shifts] = f.shifts.to_be_bytes();
+    let [.., size_1, size_0] = f.size.to_be_bytes();
+    let [.., steps_3, steps_2, steps_1, steps_0] = f.steps.to_be_bytes();
     [
-        (label % BYTE) as u8,
-        (f.answer % BYTE) as u8,
-        (f.place % BYTE) as u8,
-        (f.shifts % BYTE) as u8,
-        (f.size / BYTE % BYTE) as u8,
-        (f.size % BYTE) as u8,
-        (steps_over_65536 / BYTE % BYTE) as u8,
-        (steps_over_65536 % BYTE) as u8,
-        (steps_over_256 % BYTE) as u8,
-        (f.steps % BYTE) as u8,
+        label, answer, place, shifts, size_1, size_0, steps_3, steps_2, steps_1, steps_0,
     ]
 }
 
@@ -64,22 +43,17 @@ fn put_hex(out: &mut [u8], at: usize, said: &[u8])
     requires { at + 2 * length said.now < length out.old }
     ensures { out.new ≡ sets out.old at (hex said.now ++ (line_feed ∷ [])) }
 {
-    let mut i = 0;
-    let mut here = at;
-    while i < said.len() {
-        let byte = said[i];
-        out[here] = high_digit(byte);
-        out[here + 1] = low_digit(byte);
-        here = here + 2;
-        i = i + 1;
+    for (i, byte) in said.iter().enumerate() {
+        let here = at + 2 * i;
+        out[here] = digit_byte(*byte / RADIX);
+        out[here + 1] = digit_byte(*byte % RADIX);
     }
-    out[here] = LINE_FEED;
+    out[at + 2 * said.len()] = LINE_FEED;
 }
 
 pub(crate) fn put_line(out: &mut [u8], at: usize, label: u64, f: Figures)
     requires { at + line_length ≤ length out.old }
     ensures { out.new ≡ sets out.old at (line label f) }
 {
-    let said = line_bytes(label, f);
-    put_hex(out, at, &said);
+    put_hex(out, at, &line_bytes(label, f));
 }

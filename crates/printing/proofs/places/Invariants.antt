@@ -1,12 +1,8 @@
 -- A line more for each rule (LineLaws).
-use Prim.Native.Nat.{◌-◌, ◌≤◌}
 use mathlib.Core.Path.{◌≡◌}
 use Rattle.sheet.specs.Left.{sheet_left}
 use Rattle.printing.proofs.LineLaws.{shown}
 use Rattle.printing.proofs.places.Given as goal
 
 abbrev pub invariant-loop-rule : goal.invariant-loop-rule
-invariant-loop-rule l = (l.rule ≤ 4) × (l.out ≡ shown (sheet_left l.answer l.head l.nodes) l.initial.out l.rule)
-
-abbrev pub decreases-loop-rule : goal.decreases-loop-rule
-decreases-loop-rule l = 4 - l.rule
+invariant-loop-rule l = l.out ≡ shown (sheet_left l.answer l.head l.nodes) l.initial.out l.rule

@@ -1,31 +1,16 @@
-use mathlib.Core.Path.{refl, sym, ◌∙◌}
+-- Past the end, nowhere in the rest, or in it.
 use native.Mathlib.Omega.{arith}
-use Rattle.printing.proofs.CaseLaws.{found_here, found_later, found_nowhere}
+use Rattle.printing.proofs.CaseLaws.{found_later, found_past}
 use Rattle.printing.proofs.cases.place_of.Goals as goal
 
-pub loop-at-init : goal.loop-at-init
-loop-at-init c = refl
+pub returns-in_err-get : goal.returns-in_err-get
+returns-in_err-get c =
+    rw c.from_residual.ensures (found_past _ _ _ (omega (arith, c.in_err-get.ensures.lookup.0)))
 
-pub bounds-input-at : goal.bounds-input-at
-bounds-input-at c = omega arith
-
-pub returns-then-input-at : goal.returns-then-input-at
-returns-then-input-at c =
-    let a = c.args in
-    found_here a.byte a.input.now c.loop-at.at (omega arith) c.if-input-at.true ∙ sym c.loop-at.invariant
-
-pub overflow_add-at : goal.overflow_add-at
-overflow_add-at c = omega arith
-
-pub loop-at-smaller : goal.loop-at-smaller
-loop-at-smaller c = omega arith
-
-pub loop-at-preserved : goal.loop-at-preserved
-loop-at-preserved c =
-    let a = c.args in
-    c.loop-at.invariant ∙ found_later a.byte a.input.now c.loop-at.at (omega arith) c.if-input-at.false
+pub returns-in_err-passed : goal.returns-in_err-passed
+returns-in_err-passed c =
+    rw (c.from_residual-in_err-passed.ensures, ← found_later c.args.byte c.args.input.now c.args.from c.in_ok-get.ensures.lookup.0.2, ← c.in_err-passed.ensures)
 
 pub returns : goal.returns
 returns c =
-    let a = c.args in
-    found_nowhere a.byte a.input.now c.loop-at.at (omega arith) ∙ sym c.loop-at.invariant
+    rw (← found_later c.args.byte c.args.input.now c.args.from c.in_ok-get.ensures.lookup.0.2, ← c.in_ok-passed.ensures)

@@ -4,4 +4,4 @@ use Rattle.printing.proofs.lines.put_line.Goals as goal
 
 pub returns : goal.returns
 unfolding line
-returns c = rw (← c.line_bytes-said.ensures) c.put_hex.ensures
+returns c = rw (← c.line_bytes.ensures) c.put_hex.ensures
