@@ -1,14 +1,12 @@
 -- What an answer of done leaves the loop: a graph that can be evaluated at each element, in windows that hold what it reads and
 -- stores; and what the call gives and leaves, done or refused.
-use Prim.Native.Nat.{ℕ, zero, suc, ◌+◌, ◌*◌, ◌≤◌, ◌<◌}
+use Prim.Native.Nat.{ℕ, zero, suc, ◌+◌, ◌*◌, ◌≤◌}
 use mathlib.Core.Path.{◌≡◌, refl, sym, ap, ◌∙◌}
 use mathlib.Core.Bool.{Bool, true, ◌&&◌, false≢true}
-use mathlib.Core.Logic.{inl, inr}
-use mathlib.Core.List.{List, [], ◌∷◌}
+use mathlib.Core.Logic.{◌≢◌}
+use mathlib.Core.List.{List}
 use native.Mathlib.Omega.{arith}
 use borrow.Author.Tests.{leb-true, ltb-true}
-use types.Run.{OneOf}
-use denote.Enum.Declared.{tag_of}
 use lib.Dec.{ltb, leb, eqb}
 use lib.ListN.{length}
 use Rattle.rules.specs.Limits.{vector_bytes, nodes_most, elements_most, address_most, windows}
@@ -17,13 +15,13 @@ use Rattle.rules.specs.Elements.{modulus}
 use Rattle.rules.specs.Frames.{load_kind}
 use Rattle.rules.specs.Ranges.{head_ok, load_ok, splat_ok, row_ok}
 use Rattle.rules.specs.Trees.{cell, node_of, node_at}
-use Rattle.rules.specs.Answers.{Answer, DONE, done, at, of_plain}
+use Rattle.rules.specs.Answers.{Answer, DONE, done, of_refusal}
 use Rattle.rules.specs.Tables.{Graph, graph_of}
 use Rattle.rules.specs.Checks.{length_of, bounds_check}
 use Rattle.rules.specs.Calls.{checking, plain_answer, graph_plain, looping}
-use Rattle.rules.specs.declared.answers.PlainAnswer.{PlainAnswer}
-use Rattle.rules.specs.declared.answers.PlainAnswer.TheVariants as Plain
-use Rattle.rules.specs.contracts.answers.PlainAnswer.{the_type}
+use Rattle.rules.specs.declared.answers.Refusal.{Refusal}
+use Rattle.theory.proofs.AnswerLaws.{refusal_not_done}
+use Rattle.theory.proofs.Demands.{looping_keeps_work}
 use Rattle.theory.proofs.Lists.{and_left, and_right}
 use Rattle.theory.proofs.FormLaws.{Formed, each_check_done, passes_formed, some_row}
 use Rattle.theory.proofs.Checked.{head_passes, bounds_done}
@@ -31,7 +29,6 @@ use Rattle.graph.specs.Links.{lefts}
 use Rattle.graph.specs.Headers.{header_of, graph_in}
 use Rattle.graph.proofs.LinkLaws.{lefts_linked}
 use Rattle.graph.proofs.HeaderLaws.{header_graph}
-use Rattle.plain.specs.Looping.{looped}
 use Rattle.plain.specs.Evaluating.{Ranged, Loopable}
 
 -- ---- a row in range, whose load lies in its window
@@ -74,33 +71,24 @@ formed_loopable W g f work_len table_len b =
 
 -- ---- the answer
 
-module _ (head nodes : List ℕ) (work_len table_len : ℕ) where
+module _ (head nodes : List ℕ) (work_len table_len : ℕ) (e : done ≡ plain_answer vector_bytes head nodes work_len table_len) where
   abbrev g : Graph
   g = graph_of head nodes
 
-  checking_formed : (checking vector_bytes head nodes).number ≡ DONE → Formed vector_bytes g
+  -- 0 the form, with ROOM before it, and 3 BOUNDS
+  done_formed : Formed vector_bytes g
   unfolding checking
-  checking_formed e = passes_formed vector_bytes g (each_check_done _ e 1)
+  done_formed = passes_formed vector_bytes g (each_check_done _ (each_check_done _ (ap (λ (a : Answer). a.number) (sym e)) 0) 1)
 
-  pub done_loopable : done ≡ plain_answer vector_bytes head nodes work_len table_len
-      → Loopable (graph_in (header_of head) nodes) (lefts (node_at nodes) nodes_most) work_len table_len
-  done_loopable e =
-      -- 0 the form, 1 WINDOW, 2 ALIGN, 3 BOUNDS
-      let c = each_check_done _ (ap (λ (a : Answer). a.number) (sym e)) in
-      let f : Formed vector_bytes g = checking_formed (c 0) in
-      rw (header_graph vector_bytes head nodes f) (formed_loopable vector_bytes g f work_len table_len (c 3))
+  done_bounds : (bounds_check g work_len table_len).number ≡ DONE
+  done_bounds = each_check_done _ (ap (λ (a : Answer). a.number) (sym e)) 3
 
--- the tag of an answer that is not Done, as a match says it
-abbrev Refusal : PlainAnswer → Type 0
-Refusal r = OneOf (1 ∷ 2 ∷ 3 ∷ 4 ∷ 5 ∷ 6 ∷ []) (tag_of the_type r)
+  -- the header has all of the graph
+  done_graph : graph_in (header_of head) nodes ≡ g
+  done_graph = header_graph vector_bytes head nodes done_formed
 
-above : (x : ℕ) → OneOf (1 ∷ 2 ∷ 3 ∷ 4 ∷ 5 ∷ 6 ∷ []) x → 0 < x
-above x (inl e) = omega arith
-above x (inr (inl e)) = omega arith
-above x (inr (inr (inl e))) = omega arith
-above x (inr (inr (inr (inl e)))) = omega arith
-above x (inr (inr (inr (inr (inl e))))) = omega arith
-above x (inr (inr (inr (inr (inr e))))) = omega arith
+  pub done_loopable : Loopable (graph_in (header_of head) nodes) (lefts (node_at nodes) nodes_most) work_len table_len
+  done_loopable = rw done_graph (formed_loopable vector_bytes g done_formed work_len table_len done_bounds)
 
 module _ (head nodes work table : List ℕ) where
   abbrev answer : Answer
@@ -111,24 +99,11 @@ module _ (head nodes work table : List ℕ) where
       → record { answer = done; work = then } ≡ looping vector_bytes head nodes work table
   unfolding looping
   loop_done e then w =
-      let c = each_check_done _ (ap (λ (a : Answer). a.number) (sym e)) in
-      let f : Formed vector_bytes (graph_of head nodes) = checking_formed head nodes (length work) (length table) (c 0) in
-      rw (← e, w ∙ ap (λ (g : Graph). graph_plain g work table) (header_graph vector_bytes head nodes f))
-
-  kept : (number place : ℕ) → at (suc number) place ≡ answer
-      → record { answer = at (suc number) place; work = work } ≡ looping vector_bytes head nodes work table
-  unfolding looping
-  kept number place e = rw (← e)
+      rw (← e, w ∙ ap (λ (g : Graph). graph_plain g work table) (done_graph head nodes (length work) (length table) e))
 
   -- a refusal leaves it as it was
-  pub loop_refused : (r : PlainAnswer) → Refusal r → of_plain r ≡ answer → looped r work ≡ looping vector_bytes head nodes work table
-  loop_refused r refused e = go r (above (tag_of the_type r) refused) e
-    where
-      go : (r : PlainAnswer) → 0 < tag_of the_type r → of_plain r ≡ answer → looped r work ≡ looping vector_bytes head nodes work table
-      go Plain.Done h e = absurd (omega arith)
-      go Plain.Room h e = kept 0 0 e
-      go (Plain.Range p) h e = kept 2 p e
-      go (Plain.Shape p) h e = kept 3 p e
-      go (Plain.Window p) h e = kept 5 p e
-      go (Plain.Align p) h e = kept 6 p e
-      go (Plain.Bounds p) h e = kept 7 p e
+  pub loop_refused : (r : Refusal) → of_refusal r ≡ answer → record { answer = of_refusal r; work = work } ≡ looping vector_bytes head nodes work table
+  unfolding looping
+  loop_refused r e =
+      let ne : answer.number ≢ DONE = λ z. omega (arith, refusal_not_done r, ap (λ (a : Answer). a.number) e) in
+      rw (e, looping_keeps_work vector_bytes head nodes work table ne)

@@ -1,7 +1,7 @@
 -- The value of a node's tree at an element is made of its inputs' values there, and is an element: a load's by its bytes, a
 -- splat's by its range, an op's by the law of the operations.
-use Prim.Native.Nat.{ℕ, zero, suc, ◌+◌, ◌-◌, ◌*◌, ◌%◌, ◌≤◌, ◌<◌}
-use mathlib.Core.Path.{◌≡◌, refl, ◌∙◌}
+use Prim.Native.Nat.{ℕ, suc, ◌+◌, ◌-◌, ◌*◌, ◌%◌, ◌≤◌, ◌<◌}
+use mathlib.Core.Path.{◌≡◌, ◌∙◌}
 use mathlib.Core.List.{List}
 use native.Mathlib.Nat.{le_trans, mul-le-mul_right, mod-eq_of_lt}
 use native.Mathlib.Omega.{arith}
@@ -14,14 +14,8 @@ use Rattle.rules.specs.declared.nodes.ShiftBy.{ShiftBy}
 use Rattle.rules.specs.declared.nodes.Node.{Node}
 use Rattle.rules.specs.declared.nodes.Node.TheVariants.{Load, Splat, Op, Shift}
 use Rattle.theory.proofs.Numbers.{operate_lt}
-use Rattle.graph.specs.Links.{LinkedAt, Linked}
+use Rattle.graph.specs.Links.{left_in, LinkedAt, Linked}
 use Rattle.plain.specs.Evaluating.{Ranged, Evaluable, ElementAt, Valued}
-
--- ---- which window
-
-pub window_other : (w : ℕ) (work table : List ℕ) → (w ≡ 0 → ⊥) → window w work table ≡ table
-window_other zero work table h = absurd (h refl)
-window_other (suc w) work table h = refl
 
 -- ---- fewer nodes, fewer elements
 
@@ -44,32 +38,40 @@ evaluable_fewer {D} {n} {N} {work_len} {table_len} {nodes} e m M h l =
 
 -- ---- node k at element i
 
+-- an input of node k has a lower number, and a value where node k has one
+pub record Input (D i k input : ℕ) (nodes left : List ℕ) (work_len table_len : ℕ) : Type 0 where
+  pub falls : input < k
+  pub has : Evaluable D (suc i) (suc input) nodes left work_len table_len
+
 module _ {D i k work_len table_len : ℕ} {nodes left : List ℕ} (e : Evaluable D (suc i) (suc k) nodes left work_len table_len) where
   -- the node is known
-  module _ (node : Node) (n : node_at nodes k ≡ node) where
-    here_linked : LinkedAt (node_at nodes) (λ (j : ℕ). get_or left j 0) k node
+  module _ (node : Node) (n : node ≡ node_at nodes k) where
+    here_linked : LinkedAt (node_at nodes) (left_in left) k node
     unfolding Linked
-    here_linked = rw n at (e.linked k (omega arith))
+    here_linked = rw (← n) at (e.linked k (omega arith))
 
     here_ranged : Ranged D (suc i) work_len table_len node
-    here_ranged = rw n at (e.ranged k (omega arith))
+    here_ranged = rw (← n) at (e.ranged k (omega arith))
 
-  pub load_ranged : {a : LoadAt} → node_at nodes k ≡ Load a → Ranged D (suc i) work_len table_len (Load a)
-  load_ranged {a} n = here_ranged (Load a) n
+  input_below : (input : ℕ) → input < k → Input D i k input nodes left work_len table_len
+  input_below input h = record { falls = h; has = evaluable_fewer e (suc i) (suc input) (omega arith) (omega arith) }
 
-  pub load_valued : {a : LoadAt} {work table : List ℕ} {r : ℕ} → node_at nodes k ≡ Load a
+  pub load_valued : {a : LoadAt} {work table : List ℕ} {r : ℕ} → Load a ≡ node_at nodes k
       → ElementAt D (window a.window work table) (a.address.0 + i * D) r → Valued D i k nodes work table r
   unfolding value
   load_valued {a} n p = record { is = rw (here_linked (Load a) n) p.is; fits = p.fits }
 
-  pub splat_valued : {v : ℕ} {work table : List ℕ} → node_at nodes k ≡ Splat v → Valued D i k nodes work table v
+  pub splat_valued : {v : ℕ} {work table : List ℕ} → Splat v ≡ node_at nodes k → Valued D i k nodes work table v
   unfolding value
   splat_valued {v} n = record { is = rw (here_linked (Splat v) n); fits = here_ranged (Splat v) n }
 
-  pub op_falls : {o : ℕ} → node_at nodes k ≡ Op o → get_or left k 0 < k
-  op_falls {o} n = (here_linked (Op o) n).0
+  pub op_left : {o : ℕ} → Op o ≡ node_at nodes k → Input D i k (get_or left k 0) nodes left work_len table_len
+  op_left {o} n = input_below (get_or left k 0) (here_linked (Op o) n).0
 
-  pub op_valued : {o : ℕ} {work table : List ℕ} {x y r : ℕ} → node_at nodes k ≡ Op o → Valued D i (get_or left k 0) nodes work table x
+  pub op_right : {o : ℕ} → Op o ≡ node_at nodes k → Input D i k (k - 1) nodes left work_len table_len
+  op_right {o} n = input_below (k - 1) (omega (arith, (here_linked (Op o) n).0))
+
+  pub op_valued : {o : ℕ} {work table : List ℕ} {x y r : ℕ} → Op o ≡ node_at nodes k → Valued D i (get_or left k 0) nodes work table x
       → Valued D i (k - 1) nodes work table y → r ≡ operate D o (x % modulus D) (y % modulus D) → Valued D i k nodes work table r
   unfolding value
   op_valued {o} {x = x} {y = y} {r = r} n p q h =
@@ -79,10 +81,10 @@ module _ {D i k work_len table_len : ℕ} {nodes left : List ℕ} (e : Evaluable
         fits = rw w (operate_lt D o x y p.fits q.fits);
       }
 
-  pub shift_falls : {s : ShiftBy} → node_at nodes k ≡ Shift s → 0 < k
-  shift_falls {s} n = (here_linked (Shift s) n).0
+  pub shift_child : {s : ShiftBy} → Shift s ≡ node_at nodes k → Input D i k (k - 1) nodes left work_len table_len
+  shift_child {s} n = input_below (k - 1) (omega (arith, (here_linked (Shift s) n).0))
 
-  pub shift_valued : {s : ShiftBy} {work table : List ℕ} {r : ℕ} → node_at nodes k ≡ Shift s → Valued D i (k - 1) nodes work table r
+  pub shift_valued : {s : ShiftBy} {work table : List ℕ} {r : ℕ} → Shift s ≡ node_at nodes k → Valued D i (k - 1) nodes work table r
       → Valued D i k nodes work table r
   unfolding value
   shift_valued {s} n p = record { is = rw (here_linked (Shift s) n).1 p.is; fits = p.fits }

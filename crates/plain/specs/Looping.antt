@@ -1,8 +1,8 @@
 -- Everything that the plain loop gives and leaves.
-use Rattle.std.specs.Prelude.{ℕ, List}
-use Rattle.rules.specs.Answers.{of_plain}
+use Rattle.std.specs.Prelude.{ℕ, List, Result, ⊤}
+use Rattle.rules.specs.Answers.{of_result}
 use Rattle.rules.specs.Calls.{WithWork}
-use Rattle.rules.specs.declared.answers.PlainAnswer.{PlainAnswer}
+use Rattle.rules.specs.declared.answers.Refusal.{Refusal}
 
-abbrev pub looped : PlainAnswer → List ℕ → WithWork
-looped r work = record { answer = of_plain r; work = work }
+abbrev pub looped : Result ⊤ Refusal → List ℕ → WithWork
+looped r work = record { answer = of_result r; work = work }

@@ -10,18 +10,14 @@ ghost use Rattle.rules.specs.Limits.{vector_bytes};
 ghost use Rattle.rules.specs.Calls.{looping};
 ghost use Rattle.plain.specs.Looping.{looped};
 
-use rules::answers::PlainAnswer;
+use rules::answers::Refusal;
 
 // Runs the loop of a sheet or graph handed over as tables, on the two windows. A refusal leaves work as it was.
-pub fn run_loop(head: &[u64], nodes: &[u64], work: &mut [u8], table: &[u8]) -> PlainAnswer
+pub fn run_loop(head: &[u64], nodes: &[u64], work: &mut [u8], table: &[u8]) -> Result<(), Refusal>
     ensures { looped result work.new ≡ looping vector_bytes head.now nodes.now work.old table.now }
 {
-    let work_len = work.len() as u64;
-    let table_len = table.len() as u64;
-    let answer = refusals_plain::judge(head, nodes, work_len, table_len);
-    if let PlainAnswer::Done = answer {
-        let left = graph::left_inputs(nodes);
-        looping::each_element(graph::header_of(head), nodes, &left, work, table);
-    }
-    answer
+    refusals_plain::judge(head, nodes, work.len() as u64, table.len() as u64)?;
+    let left = graph::left_inputs(nodes);
+    looping::each_element(graph::header_of(head), nodes, &left, work, table);
+    Ok(())
 }

@@ -1,21 +1,28 @@
--- `judge`: a form that is refused is the answer; one that passes has the header of its graph.
-use mathlib.Core.Path.{sym}
-use Rattle.theory.proofs.Firsts.{first_refused}
-use Rattle.refusals_plain.proofs.JudgeLaws.{form_passed}
+-- `judge`: a graph that passes as if read has the header of its tables, and each check that finds nothing leaves the answer to the next.
+use Rattle.std.proofs.Common.{◌≡◌, ℕ, List, sym, ◌∙◌}
+use Rattle.rules.specs.Limits.{vector_bytes}
+use Rattle.rules.specs.Answers.{done}
+use Rattle.rules.specs.Tables.{graph_of}
+use Rattle.rules.specs.Calls.{checking}
+use Rattle.theory.proofs.Firsts.{checked_formed}
+use Rattle.graph.specs.Headers.{header_of, graph_in}
+use Rattle.graph.proofs.HeaderLaws.{header_graph}
+use Rattle.graph_lines.proofs.StepLaws.{handed_on, refused, passed, last}
 use Rattle.refusals_plain.proofs.judge.Goals as goal
 
-pub returns-in-Done : goal.returns-in-Done
-returns-in-Done c =
-    let a = c.args in
-    let form = sym (rw c.in-Done.is at c.check-form.ensures) in
-    form_passed a.head.now a.nodes.now a.work_len a.table_len form _
-    (rw c.header_of.ensures at c.judge_windows.ensures)
+graph_same : (head nodes : List ℕ) → done ≡ checking vector_bytes head nodes → graph_in (header_of head) nodes ≡ graph_of head nodes
+graph_same head nodes e = header_graph vector_bytes head nodes (checked_formed vector_bytes head nodes (sym e))
 
-pub returns-in-Room : goal.returns-in-Room
-returns-in-Room c = sym (first_refused _ _ 0 _ (sym (rw c.in-Room.is at c.check-form.ensures)))
+pub returns-in_err-align : goal.returns-in_err-align
+returns-in_err-align c =
+    let same = graph_same c.args.head.now c.args.nodes.now c.in_ok-check.ensures in
+    let align = rw (c.header_of-header.ensures, same) at c.in_err-align.ensures in
+    handed_on _ _ c.from_residual-in_err-align.ensures.1 ∙ refused _ _ _ align ∙ passed _ _ c.in_ok-windows.ensures
+    ∙ passed _ _ c.in_ok-check.ensures
 
-pub returns-in-Range : goal.returns-in-Range
-returns-in-Range c = sym (first_refused _ _ 2 _ (sym (rw c.in-Range.is at c.check-form.ensures)))
-
-pub returns-in-Shape : goal.returns-in-Shape
-returns-in-Shape c = sym (first_refused _ _ 3 _ (sym (rw c.in-Shape.is at c.check-form.ensures)))
+pub returns : goal.returns
+returns c =
+    let same = graph_same c.args.head.now c.args.nodes.now c.in_ok-check.ensures in
+    let align = rw (c.header_of-header.ensures, same) at c.in_ok-align.ensures in
+    let bounds = rw (c.header_of-header.ensures, same) at c.bounds.ensures in
+    last _ _ bounds ∙ passed _ _ align ∙ passed _ _ c.in_ok-windows.ensures ∙ passed _ _ c.in_ok-check.ensures

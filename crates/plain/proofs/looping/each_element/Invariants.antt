@@ -1,5 +1,4 @@
--- `each_element`: the invariant is that work stands as the definition has it after i elements; the measure is what is left of n.
-use Prim.Native.Nat.{◌-◌}
+-- `each_element`: the invariant is that work stands as the definition has it after i elements.
 use Rattle.rules.specs.Units.{width_bytes}
 use Rattle.rules.specs.Trees.{node_at, tree_at}
 use Rattle.plain.proofs.LoopLaws.{After}
@@ -7,7 +6,4 @@ use Rattle.plain.proofs.looping.each_element.Given as goal
 
 abbrev pub invariant-loop-i : goal.invariant-loop-i
 invariant-loop-i l =
-    After (width_bytes l.width) l.store.0 l.elements (tree_at (node_at l.nodes) l.root) l.initial.work l.table l.i l.work
-
-abbrev pub decreases-loop-i : goal.decreases-loop-i
-decreases-loop-i l = l.elements - l.i
+    After (width_bytes l.header.width) l.header.store.0 l.header.elements (tree_at (node_at l.nodes) l.root) l.initial.work l.table l.i l.work
