@@ -7,14 +7,12 @@ ghost use Rattle.graph.specs.Links.{left_in, lefts, Linked};
 ghost use Rattle.placing.specs.Moves.{meeting_at, op_offset};
 ghost use Rattle.placing.specs.Records.{record_of, Recorded};
 
+use graph::ROWS;
 use graph_offsets::{agree, join};
 use placing_targets::Moves;
-use rules::limits::{NODES, V};
+use rules::limits::V;
 use rules::nodes::{Node, NodeRecord, Offset};
 use rules::units::ByteOffset;
-
-// Places for the records of 64 nodes.
-const ROWS: usize = NODES as usize;
 
 // The nodes' records, where each op's left input is, and what the rule moves.
 #[derive(Drop)]
