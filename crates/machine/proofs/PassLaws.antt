@@ -260,3 +260,9 @@ module _ (h : ProgramHead) (prologue body epilogue work table : List ℕ) where
         go : (n : ℕ) → DONE < n → record { answer = of_refusal r; work = work } ≡ started n (of_refusal r) work (outcome h.d)
         go zero above = absurd (omega arith)
         go (suc n) above = refl
+
+-- ---- what the check finds a loop's proof by
+
+pub ruleset row_by_row = (rows_none, out_first, step_first)
+
+pub ruleset pass_by_pass = (passes_more, passes_none, part_done)

@@ -24,15 +24,11 @@ fn splat_value(i: Instruction) -> u64
 fn do_splat(element: Element, i: Instruction, registers: &mut [[u8; 16]; 1024]) -> bool
     ensures { Tries splat_kind (width_bytes element.width) i result registers.old registers.new }
 {
-    if REGISTERS <= i.destination {
-        return false;
-    }
     let value = splat_value(i);
-    if element.largest < value {
+    if REGISTERS <= i.destination || element.largest < value {
         return false;
     }
-    let v = vector_bytes::vsplat(Width::Eight, value * element.ones);
-    registers[i.destination as usize] = v;
+    registers[i.destination as usize] = vector_bytes::vsplat(Width::Eight, value * element.ones);
     true
 }
 

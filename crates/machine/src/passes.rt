@@ -25,7 +25,7 @@ pub(crate) struct Run<'a> {
 
 impl Run<'_> {
     // The instructions of a section in one pass.
-    #[tactic(auto, using(crate::proofs::PassLaws::rows_none, crate::proofs::PassLaws::out_first, crate::proofs::PassLaws::step_first), unfolding(rules::specs::Machine::runs))]
+    #[tactic(auto, using(crate::proofs::PassLaws::row_by_row), unfolding(rules::specs::Machine::runs))]
     fn section_pass(
         self,
         mut steps: u64,
@@ -50,7 +50,7 @@ impl Run<'_> {
     }
 
     // The body in its passes: 1 to full - 1.
-    #[tactic(auto, using(crate::proofs::PassLaws::passes_more, crate::proofs::PassLaws::passes_none, crate::proofs::PassLaws::part_done), unfolding(rules::specs::Machine::runs))]
+    #[tactic(auto, using(crate::proofs::PassLaws::pass_by_pass), unfolding(rules::specs::Machine::runs))]
     fn body_passes(
         self,
         mut steps: u64,
