@@ -7,7 +7,7 @@ ghost use Rattle.rules.specs.Machine.{splat_value};
 ghost use Rattle.machine_kinds.specs.Trying.{tried, try_as, Tries};
 
 use crate::elements::Element;
-use machine_kinds::REGISTERS;
+use machine_kinds::{REGISTERS, Registers};
 use rules::kinds::InstructionKind;
 use rules::limits::LOW_VALUES;
 use rules::program::Instruction;
@@ -21,7 +21,7 @@ fn splat_value(i: Instruction) -> u64
 
 // One product is the value in every element of eight bytes, whatever the width.
 #[tactic(auto, using(std::proofs::lemmas::Bool::Decides::nat_tests), unfolding(machine_kinds::specs::Trying::try_as, rules::specs::Machine::fields_as, rules::specs::Machine::reaches_as, rules::specs::Machine::effect_as))]
-fn do_splat(element: Element, i: Instruction, registers: &mut [[u8; 16]; 1024]) -> bool
+fn do_splat(element: Element, i: Instruction, registers: &mut Registers) -> bool
     ensures { Tries splat_kind (width_bytes element.width) i result registers.old registers.new }
 {
     let value = splat_value(i);
@@ -37,7 +37,7 @@ pub(crate) fn act(
     element: Element,
     i: Instruction,
     pass: VectorNumber,
-    registers: &mut [[u8; 16]; 1024],
+    registers: &mut Registers,
     work: &mut [u8],
     table: &[u8],
 ) -> bool

@@ -12,8 +12,10 @@ ghost use Rattle.machine.specs.Running.{instructions, program, stood, ran};
 use crate::elements::Element;
 use crate::instructions::act;
 use crate::sections::Section;
+use machine_kinds::{REGISTERS, Registers};
 use rules::answers::Refusal;
 use rules::units::VectorNumber;
+use vector_elements::VECTOR_BYTES;
 
 // What a run goes by, all along: its elements, its budget and the window that it only reads.
 #[derive(Clone, Copy)]
@@ -31,7 +33,7 @@ impl Run<'_> {
         mut steps: u64,
         section: Section,
         pass: VectorNumber,
-        registers: &mut [[u8; 16]; 1024],
+        registers: &mut Registers,
         work: &mut [u8],
     ) -> Result<u64, Refusal>
         ensures { stood result registers.new work.new ≡ runs vector_bytes (width_bytes self.entry.element.width) self.entry.table.now self.entry.budget (standing DONE steps (state registers.old work.old)) (in_pass pass.0 (instructions section.entry)) }
@@ -56,7 +58,7 @@ impl Run<'_> {
         mut steps: u64,
         body: Section,
         full: u64,
-        registers: &mut [[u8; 16]; 1024],
+        registers: &mut Registers,
         work: &mut [u8],
     ) -> Result<u64, Refusal>
         ensures { stood result registers.new work.new ≡ runs vector_bytes (width_bytes self.entry.element.width) self.entry.table.now self.entry.budget (standing DONE steps (state registers.old work.old)) (passes (full - 1) 1 (instructions body.entry)) }
@@ -78,7 +80,7 @@ impl Run<'_> {
     ) -> Result<u64, Refusal>
         ensures { ran result work.new ≡ ended (runs vector_bytes (width_bytes self.entry.element.width) self.entry.table.now self.entry.budget (start vector_bytes work.old) (trace (program full prologue.entry body.entry epilogue.entry))) }
     {
-        let mut registers = [[0u8; 16]; 1024];
+        let mut registers: Registers = [[0; VECTOR_BYTES]; REGISTERS as usize];
         let steps = self.section_pass(0, prologue, VectorNumber(0), &mut registers, work)?;
         let steps = self.body_passes(steps, body, full, &mut registers, work)?;
         self.section_pass(steps, epilogue, VectorNumber(full), &mut registers, work)
