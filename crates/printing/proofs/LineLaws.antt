@@ -1,5 +1,5 @@
 -- Digits written one after another, and lines after lines, make one run of stores from the first place on.
-use Prim.Native.Nat.{ℕ, zero, suc, ◌+◌, ◌*◌, ◌/◌, ◌%◌, ◌<◌}
+use Prim.Native.Nat.{ℕ, zero, suc, ◌+◌, ◌*◌, ◌/◌, ◌%◌, ◌<◌, min}
 use mathlib.Core.Path.{◌≡◌, refl, sym, ap, ◌∙◌}
 use mathlib.Core.List.{List, [], ◌∷◌, ◌++◌, append-nil}
 use native.Mathlib.Nat.{zero-add}
@@ -7,6 +7,7 @@ use native.Mathlib.Numerals.{add-one}
 use native.Mathlib.Omega.{arith}
 use lib.ListN.{length, get_or, set, take, replicate, length-append, length-take}
 use lib.Seq.{sets, length-sets, sets-eq, take-suc, take_all, drop-length}
+use Rattle.theory.proofs.Lists.{split}
 use Rattle.translating.proofs.WritingLaws.{sets_append}
 use Rattle.rules.specs.Limits.{nodes_most, head_entries, row_entries, text_most}
 use Rattle.rules.specs.Calls.{WithSheet, reading}
@@ -100,3 +101,11 @@ module _ (text : List ℕ) (s : WithSheet) (out₀ : List ℕ)
   pub drawn_shown : length out₀ ≡ line_length → {f : Figures} → f ≡ drawn_figures s → sets out₀ 0 (line drawn_label f) ≡ drawn text
   unfolding drawn sheet_in
   drawn_shown e p = sets_whole out₀ (line drawn_label _) (e ∙ sym (length_line drawn_label _)) ∙ rw (p, read)
+
+-- a text that is shorter is its own first bytes
+pub first_bytes : (most : ℕ) (text : List ℕ) {k : ℕ} → k ≡ min (length text) most → take k text ≡ take most text
+first_bytes most text {k} e = split (length text) most
+    (λ (h : length text < most).
+    let n : k ≡ length text = omega arith in
+    rw (n, take_all (length text) text (omega arith), take_all most text (omega arith)))
+    (λ h. let n : k ≡ most = omega arith in rw n)

@@ -7,4 +7,4 @@ pub returns : goal.returns
 returns c =
     let a = c.args in
     c.put_line.ensures
-    ∙ drawn_shown a.text.now _ _ c.read_start-answer.ensures refl c.drawn_figures-figures.ensures
+    ∙ drawn_shown a.text.now _ _ c.read_start-answer.ensures refl (c.told.ensures ∙ c.drawn_figures-figures.ensures)
