@@ -66,9 +66,5 @@ pub fn moves_by(rule: Rule, head: Header, nodes: &[u64]) -> Moves
 pub fn moves_of(rule: u64, head: Header, nodes: &[u64]) -> Moves
     ensures { result ≡ moves_of vector_bytes head.store.0 rule (dominant_in vector_bytes head.store.0 (node_at nodes.now) head.count) }
 {
-    moves_by(
-        Rule::try_from(rule).unwrap_or(Rule::Dominant),
-        head,
-        nodes,
-    )
+    moves_by(Rule::try_from(rule).unwrap_or(Rule::Dominant), head, nodes)
 }
