@@ -1,13 +1,14 @@
 -- The figures that are taken from tables are those of the definitions: of every refusal, of a drawn graph that is translated, and of
 -- a bare sheet that is placed and translated.
-use Prim.Native.Nat.{ℕ, zero, suc, ◌*◌, ◌≤◌, ◌<◌}
+use Prim.Native.Nat.{ℕ, zero, suc, ◌-◌, ◌*◌, ◌≤◌, ◌<◌}
+use native.Mathlib.Nat.{mul-le-mul}
 use mathlib.Core.Path.{◌≡◌, refl, sym, ap, ◌∙◌}
 use mathlib.Core.Bool.{true, false, ◌||◌}
 use mathlib.Core.List.{List, [], ◌∷◌}
 use native.Mathlib.Omega.{arith}
 use lib.ListN.{replicate}
 use Rattle.std.specs.Prelude.{Result, Ok, Err, ⊤}
-use Rattle.rules.specs.Limits.{vector_bytes, elements_most, nodes_most, window_most, long_most, head_entries, row_entries}
+use Rattle.rules.specs.Limits.{vector_bytes, elements_most, nodes_most, section_most, window_most, long_most, head_entries, row_entries}
 use Rattle.rules.specs.Answers.{Answer, DONE, done, first, or_else, of_refusal, of_result}
 use Rattle.rules.specs.Units.{is_width}
 use Rattle.rules.specs.Trees.{Tree, shifts, node_at, rows}
@@ -41,6 +42,12 @@ use Rattle.printing.specs.Figuring.{refusal, shifts_in, steps_in, Countable, tre
 use Rattle.printing.proofs.ShiftLaws.{tree_shifts}
 
 -- ---- the steps
+
+pub few_body_steps : (p : ProgramHead) → Countable p → (p.f - 1) * p.body ≤ window_most * section_most
+few_body_steps p c =
+    let f : p.f - 1 ≤ window_most = omega (arith, c.full) in
+    let b : p.body ≤ section_most = c.body in
+    mul-le-mul f b
 
 full_few : (n S : ℕ) → n ≤ elements_most → (D : ℕ) → is_width D ≡ true → full_vectors vector_bytes D n S ≤ window_most
 full_few n S h =
