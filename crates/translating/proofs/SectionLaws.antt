@@ -6,7 +6,7 @@ use mathlib.Core.Path.{◌≡◌, refl, ◌∙◌}
 use mathlib.Core.List.{List, [], ◌∷◌, ◌++◌, append_assoc}
 use lib.ListN.{length-append}
 use Rattle.rules.specs.Limits.{vector_bytes, elements_most, section_most, low_values}
-use Rattle.rules.specs.Trees.{Tree, node_at, tree_at}
+use Rattle.rules.specs.Trees.{Tree}
 use Rattle.rules.specs.Offsets.{store_offset}
 use Rattle.rules.specs.Vectors.{block_zero, held}
 use Rattle.rules.specs.Machine.{Load, Splice, Store}
@@ -14,7 +14,9 @@ use Rattle.rules.specs.Code.{G, code, new, old_block, only_section, prologue_sec
 use Rattle.rules.specs.declared.program.Instruction.{Instruction}
 use Rattle.theory.proofs.Coded.{size_pos, length_code}
 use Rattle.translating_rows.specs.Putting.{cut, handed, putting}
-use Rattle.translating.specs.Writing.{Written, Roomy, Root, new_and_old}
+use Rattle.graph.specs.NodeTables.{NodeTable}
+use Rattle.graph.specs.Linking.{tree}
+use Rattle.translating.specs.Writing.{Written, Roomy, Ready, Root, root_of, new_and_old}
 use Rattle.translating.proofs.WritingLaws.{written_then, written_length, written_none, cut_small, put_written, splice_written, store_written}
 use Rattle.translating.proofs.CountLaws.{offset_small}
 use Rattle.translating.proofs.ExpressionLaws.{code_rows}
@@ -27,9 +29,21 @@ block_number = 134217728
 offset_fits : (S c : ℕ) → c ≡ store_offset vector_bytes S → c < low_values
 offset_fits S c e = omega (arith, offset_small S)
 
-module _ {nodes left : List ℕ} {root S : ℕ} (r : Root nodes left root S) where
-  abbrev t : Tree
-  t = tree_at (node_at nodes) root
+-- the last node of a table is its root
+pub root_is : (table : NodeTable) (k : ℕ) → k + 1 ≡ table.count → tree table.rows k ≡ root_of table
+root_is table k last = let e : k ≡ table.count - 1 = omega arith in rw e
+
+module _ {t : Tree} {S : ℕ} (r : Root t S) where
+  -- its code can be written from the first row on
+  pub root_ready : (k : ℕ) {s : Tree} {section : List ℕ} → k < 256 → s ≡ t → Roomy section → Ready s k block_number 0 section
+  root_ready k low is room =
+      record {
+        ranged = rw is r.ranged;
+        above = omega arith;
+        below = omega arith;
+        fits = rw is (omega (arith, r.short));
+        room = room;
+      }
 
   -- what is free after the tree's code, and how it goes on
   module _ {before one : List ℕ} {old : ℕ} (room : Roomy before) (w : Written before one 0 old (code vector_bytes t block_number 0)) where

@@ -1,6 +1,6 @@
 -- What each answer leaves, as the definition of translating lays it down; and what a graph has that nothing refused: the root's
 -- code can be written, and fits.
-use Prim.Native.Nat.{ℕ, zero, suc, ◌+◌, ◌-◌, ◌%◌, ◌≤◌, ◌<◌}
+use Prim.Native.Nat.{ℕ, zero, suc, ◌+◌, ◌%◌, ◌≤◌, ◌<◌}
 use native.Mathlib.Nat.{zero-add}
 use native.Mathlib.Omega.{arith}
 use mathlib.Core.Path.{◌≡◌, refl, sym, ap, ◌∙◌}
@@ -11,11 +11,11 @@ use lib.Dec.{ltb, leb, eqb}
 use Rattle.std.specs.Prelude.{Ok, Err}
 use lib.ListN.{length, get_or, length-append}
 use lib.Seq.{sets}
-use Rattle.rules.specs.Limits.{vector_bytes, nodes_most, elements_most, address_most, section_most}
+use Rattle.rules.specs.Limits.{vector_bytes, elements_most, address_most, section_most}
 use Rattle.rules.specs.Answers.{Answer, DONE, done, of_refusal}
 use Rattle.rules.specs.Units.{width_bytes}
 use Rattle.rules.specs.Ranges.{head_ok, load_ok, op_ok, shift_ok, row_ok}
-use Rattle.rules.specs.Trees.{Tree, load, splat, op, shift, node_at, tree_at}
+use Rattle.rules.specs.Trees.{Tree, load, splat, op, shift}
 use Rattle.rules.specs.Machine.{Program}
 use Rattle.rules.specs.Tables.{Graph, graph_of, entries, program_head, no_program, padded, table_left, head_left}
 use Rattle.rules.specs.Checks.{section_short, head_short, nodes_short, room_check, form_check, window_check, align_check, bounds_check, carry_check, offset_check, long_check}
@@ -31,13 +31,13 @@ use Rattle.theory.proofs.Checked.{head_passes, long_done}
 use Rattle.theory.proofs.Handed.{program_fits}
 use Rattle.theory.proofs.Demands.{sections_roomy}
 use Rattle.tables.proofs.TableLaws.{padded_put}
-use Rattle.graph.specs.Links.{lefts}
+use Rattle.graph.specs.NodeTables.{NodeTable}
 use Rattle.graph.specs.declared.headers.Header.{Header}
-use Rattle.graph.specs.Headers.{header_of, graph_in}
-use Rattle.graph.proofs.InputLaws.{some_node, linked_root, root_tree}
+use Rattle.graph.specs.Headers.{header_of}
+use Rattle.graph.proofs.InputLaws.{some_node, root_tree}
 use Rattle.graph.proofs.HeaderLaws.{header_graph}
 use Rattle.translating_rows.specs.Putting.{written}
-use Rattle.translating.specs.Writing.{Written, Roomy, Ranged, Root}
+use Rattle.translating.specs.Writing.{Written, Roomy, Ranged, Root, root_of}
 use Rattle.translating.specs.Programs.{headed, Emitted, program_given}
 
 -- ---- the tables
@@ -153,44 +153,38 @@ module _ (head nodes : List ℕ) (work_len table_len : ℕ) (P B E : List ℕ) w
     abbrev h : Header
     h = header_of head
 
+    abbrev table : NodeTable
+    table = record { rows = nodes; count = get_or head 3 0 }
+
     passed : (k : ℕ) → (get_or (checks head nodes work_len table_len P B E) k done).number ≡ DONE
     passed = each_check_done (checks head nodes work_len table_len P B E) (sym (ap (λ (a : Answer). a.number) e))
 
-    formed : Formed vector_bytes g
+    pub formed : Formed vector_bytes g
     formed = passes_formed vector_bytes g (passed 1)
 
-    same_graph : graph_in h nodes ≡ g
-    same_graph = header_graph vector_bytes head nodes formed
+    same_width : width_bytes h.width ≡ g.D
+    same_width = ap (λ (x : Graph). x.D) (header_graph vector_bytes head nodes formed)
 
-    count_is : h.count ≡ g.N
-    count_is = ap (λ (x : Graph). x.N) same_graph
+    root_made : root_of table ≡ graph_tree g
+    root_made = root_tree nodes g.N (some_node g formed)
 
-    root_is : tree_at (node_at nodes) (h.count - 1) ≡ graph_tree g
-    root_is = rw count_is (root_tree nodes g.N (some_node g formed))
-
-    program_is : headed vector_bytes h nodes ≡ p
-    program_is = rw (ap (λ (x : Graph). x.D) same_graph, root_is)
+    program_is : headed vector_bytes h table ≡ p
+    program_is = rw (same_width, root_made)
 
     roomy : Roomy P × Roomy B × Roomy E
     roomy =
         let r = sections_roomy (head_short head || nodes_short nodes) _ _ _ (refuse_done _ 0 0 (passed 0)) in
         (section_roomy P r.0, section_roomy B r.1, section_roomy E r.2)
 
-    pub program_ready : (0 < h.count) × (h.elements ≤ elements_most) × Root nodes (lefts (node_at nodes) nodes_most) (h.count - 1) h.store.0
-    program_ready =
-        let n = count_is in
-        let one = some_node g formed in
-        let most = formed.most in (
-          omega arith,
-          (head_passes g.D g.n g.S formed.head).elements,
-          record {
-            linked = rw count_is (linked_root g formed);
-            ranged = rw root_is (tree_ranged g.D (graph_tree g) (formed_tree_ok vector_bytes g formed));
-            known = omega arith;
-            short = rw root_is (long_done (graph_tree g) (passed 7));
-            address = head_address g.D g.n g.S formed.head;
-          },
-        )
+    pub program_ready : (h.elements ≤ elements_most) × Root (root_of table) h.store.0
+    program_ready = (
+      (head_passes g.D g.n g.S formed.head).elements,
+      record {
+        ranged = rw root_made (tree_ranged g.D (graph_tree g) (formed_tree_ok vector_bytes g formed));
+        short = rw root_made (long_done (graph_tree g) (passed 7));
+        address = head_address g.D g.n g.S formed.head;
+      },
+    )
 
     pub cleared_roomy : Roomy (cleared P) × Roomy (cleared B) × Roomy (cleared E)
     cleared_roomy =
@@ -198,12 +192,12 @@ module _ (head nodes : List ℕ) (work_len table_len : ℕ) (P B E : List ℕ) w
         (cleared_room P r.0, cleared_room B r.1, cleared_room E r.2)
 
     pub program_leaves : {made : ProgramHead} {P' B' E' : List ℕ}
-        → Emitted (width_bytes h.width) (headed vector_bytes h nodes) made (cleared P) (cleared B) (cleared E) P' B' E'
+        → Emitted (width_bytes h.width) (headed vector_bytes h table) made (cleared P) (cleared B) (cleared E) P' B' E'
         → program_given (Ok made) P' B' E' ≡ all
     unfolding translating
     program_leaves {made} {P'} {B'} {E'} m =
         let m' : Emitted g.D p made (cleared P) (cleared B) (cleared E) P' B' E' =
-        rw (program_is, ap (λ (x : Graph). x.D) same_graph) at m in
+        rw (program_is, same_width) at m in
         let f = program_fits vector_bytes g.D g.n g.S (graph_tree g) (long_done (graph_tree g) (passed 7)) in
         rw (
           ← e,

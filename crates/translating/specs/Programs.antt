@@ -1,7 +1,6 @@
 -- A program as it is written: its head, and its sections from their first rows on; and all that translating gives.
-use Rattle.std.specs.Prelude.{ℕ, ◌-◌, ◌≡◌, List, Result, Ok, Err}
+use Rattle.std.specs.Prelude.{ℕ, ◌≡◌, List, Result, Ok, Err}
 use Rattle.rules.specs.Units.{width_bytes}
-use Rattle.rules.specs.Trees.{node_at, tree_at}
 use Rattle.rules.specs.Machine.{Program}
 use Rattle.rules.specs.Code.{program_of}
 use Rattle.rules.specs.Tables.{no_program}
@@ -10,12 +9,12 @@ use Rattle.rules.specs.Calls.{WithProgram}
 use Rattle.rules.specs.declared.answers.Refusal.{Refusal}
 use Rattle.rules.specs.declared.program.ProgramHead.{ProgramHead}
 use Rattle.graph.specs.declared.headers.Header.{Header}
-use Rattle.translating.specs.Writing.{Written}
+use Rattle.graph.specs.NodeTables.{NodeTable}
+use Rattle.translating.specs.Writing.{Written, root_of}
 
 -- the program of a graph's header and its nodes
-abbrev pub headed : (W : ℕ) → Header → List ℕ → Program
-headed W h nodes =
-    program_of W (width_bytes h.width) h.elements h.store.0 (tree_at (node_at nodes) (h.count - 1))
+abbrev pub headed : (W : ℕ) → Header → NodeTable → Program
+headed W h table = program_of W (width_bytes h.width) h.elements h.store.0 (root_of table)
 
 -- a head, and the three sections before and after a program of elements of D bytes was written into them
 pub record Emitted (D : ℕ) (p : Program) (h : ProgramHead) (prologue body epilogue prologue' body' epilogue' : List ℕ) : Type 0 where

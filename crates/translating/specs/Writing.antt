@@ -1,13 +1,13 @@
 -- Instructions written into a section, and what a tree's code needs so that it can be: numbers of 32 bits, and rows.
-use Rattle.std.specs.Prelude.{ℕ, ◌+◌, ◌*◌, ◌-◌, ◌^◌, ◌≤◌, ◌<◌, ◌≡◌, List, [], ◌∷◌, ◌++◌, length, get_or}
-use Rattle.rules.specs.Limits.{vector_bytes, windows, address_most, operations, nodes_most, section_most, long_most, instruction_entries}
-use Rattle.rules.specs.Trees.{Tree, load, splat, op, shift, node_at, tree_at}
+use Rattle.std.specs.Prelude.{ℕ, ◌+◌, ◌*◌, ◌-◌, ◌^◌, ◌≤◌, ◌<◌, ◌≡◌, List, [], ◌∷◌, ◌++◌, length}
+use Rattle.rules.specs.Limits.{vector_bytes, windows, address_most, operations, section_most, long_most, instruction_entries}
+use Rattle.rules.specs.Trees.{Tree, load, splat, op, shift}
 use Rattle.rules.specs.Code.{G, new, old_block}
 use Rattle.rules.specs.declared.program.Instruction.{Instruction}
-use Rattle.graph.specs.Links.{Linked}
+use Rattle.graph.specs.NodeTables.{NodeTable}
+use Rattle.graph.specs.Linking.{tree}
 use Rattle.translating_rows.specs.Putting.{written}
 use Rattle.translating_rows.specs.declared.Writer.{Writer}
-use Rattle.translating.specs.declared.expressions.Subtree.{Subtree}
 
 -- a section before and after these instructions were written from a row on, and the row after them
 pub record Written (before after : List ℕ) (row next : ℕ) (is : List Instruction) : Type 0 where
@@ -33,34 +33,24 @@ Ranged (splat v) = Unit
 Ranged (op o l r) = (o < operations) × Ranged l × Ranged r
 Ranged (shift f g t) = (f < vector_bytes) × (g < vector_bytes) × Ranged t
 
--- what the code of node k stands on: where the inputs of the nodes up to it are, fields in their ranges, rows, and addresses
--- that a next or a previous of each node on the way moves by a vector
-pub record Ready (nodes left : List ℕ) (k blocks row : ℕ) (section : List ℕ) : Type 0 where
-  pub linked : Linked (node_at nodes) (λ (j : ℕ). get_or left j 0) (k + 1)
-  pub ranged : Ranged (tree_at (node_at nodes) k)
-  pub known : k < nodes_most
-  pub above : k ≤ blocks
-  pub below : blocks + k ≤ blocks_most
-  pub fits : row + G (tree_at (node_at nodes) k) ≤ section_most
+-- what the code of a tree stands on: fields in their ranges, rows, and addresses that a next or a previous of each node on the way
+-- down, so many at most, moves by a vector
+pub record Ready (t : Tree) (height blocks row : ℕ) (section : List ℕ) : Type 0 where
+  pub ranged : Ranged t
+  pub above : height ≤ blocks
+  pub below : blocks + height ≤ blocks_most
+  pub fits : row + G t ≤ section_most
   pub room : Roomy section
 
--- what a section stands on: the code of the root from the first row on, four rows more, and an address to store at
-pub record Root (nodes left : List ℕ) (root S : ℕ) : Type 0 where
-  pub linked : Linked (node_at nodes) (λ (j : ℕ). get_or left j 0) (root + 1)
-  pub ranged : Ranged (tree_at (node_at nodes) root)
-  pub known : root < nodes_most
-  pub short : G (tree_at (node_at nodes) root) ≤ long_most
+-- what a section stands on: the code of the tree from the first row on, four rows more, and an address to store at
+pub record Root (t : Tree) (S : ℕ) : Type 0 where
+  pub ranged : Ranged t
+  pub short : G t ≤ long_most
   pub address : S ≤ address_most
 
--- the same of a tree that is handed over as one, and of a writer
-abbrev pub tree_of : Subtree → Tree
-tree_of s = tree_at (node_at s.nodes.now) s.root
-
-abbrev pub ReadyAt : Subtree → (blocks : ℕ) → Writer → Type 0
-ReadyAt s blocks writer = Ready s.nodes.now s.left.now s.root blocks writer.row writer.section.now
-
-abbrev pub RootAt : Subtree → (S : ℕ) → Type 0
-RootAt s S = Root s.nodes.now s.left.now s.root S
+-- the tree of a table's last node
+abbrev pub root_of : NodeTable → Tree
+root_of table = tree table.rows (table.count - 1)
 
 -- what every section but the body begins with: the tree, and the old block
 abbrev pub new_and_old : (S : ℕ) → Tree → List Instruction

@@ -34,6 +34,6 @@ pub fn translate(
     }
     translating_rows::clear(prologue, body, epilogue);
     let header = graph::header_of(head);
-    let left = graph::left_inputs(nodes);
-    Ok(programs::emit(header, nodes, &left, prologue, body, epilogue))
+    let links = graph::Links::new(head, nodes);
+    Ok(programs::emit(header, &links, prologue, body, epilogue))
 }

@@ -4,10 +4,11 @@ ghost use Rattle.std.specs.Prelude.{◌≡◌, ◌+◌, ◌≤◌};
 ghost use Rattle.rules.specs.Limits.{vector_bytes, elements_most};
 ghost use Rattle.rules.specs.Units.{width_bytes};
 ghost use Rattle.rules.specs.Code.{only_section, prologue_section, body_of, epilogue_of};
-ghost use Rattle.translating.specs.Writing.{Written, Wrote, tree_of, Roomy, RootAt, new_and_old};
+ghost use Rattle.translating.specs.Writing.{Written, Wrote, root_of, Roomy, Root, new_and_old};
 
 use crate::counts::{byte_of_element, store_offset};
-use crate::expressions::{Subtree, gen_expr};
+use crate::expressions::gen_expr;
+use graph::Links;
 use rules::limits::{BLOCK_ZERO, WORK};
 use rules::nodes::LoadAt;
 use rules::units::{ByteOffset, ElementNumber, VectorNumber, Width};
@@ -24,15 +25,15 @@ struct Blocks {
 }
 
 // The tree and, after it, the old block.
-fn put_blocks(tree: Subtree, store: ByteOffset, writer: &mut Writer) -> Blocks
-    requires { RootAt tree store.0 × Roomy writer.old.section.now × (writer.old.row ≡ 0) }
+fn put_blocks(links: &Links, store: ByteOffset, writer: &mut Writer) -> Blocks
+    requires { Root (root_of links.now) store.0 × Roomy writer.old.section.now × (writer.old.row ≡ 0) }
     ensures same_section { writer.new.section.ghost_name ≡ writer.old.section.ghost_name }
-    ensures written { Wrote writer.old writer.new (new_and_old store.0 (tree_of tree.entry)) }
+    ensures written { Wrote writer.old writer.new (new_and_old store.0 (root_of links.now)) }
     ensures new_register { result.new + 2 ≡ writer.new.row }
     ensures old_register { result.old + 1 ≡ writer.new.row }
 {
     let zero = VectorNumber(BLOCK_ZERO);
-    let new = gen_expr(tree, zero, writer);
+    let new = gen_expr(links, links.root(), zero, writer);
     let block = LoadAt {
         window: WORK,
         address: store,
@@ -43,17 +44,17 @@ fn put_blocks(tree: Subtree, store: ByteOffset, writer: &mut Writer) -> Blocks
 
 // F = 0: of the new block only the stream's own bytes, from c to c + nD. How many rows it has.
 pub(crate) fn put_only(
-    tree: Subtree,
+    links: &Links,
     store: ByteOffset,
     width: Width,
     elements: ElementNumber,
     section: &mut [u32],
 ) -> u32
-    requires { RootAt tree store.0 × Roomy section.old × (elements.0 ≤ elements_most) }
-    ensures { Written section.old section.new 0 result (only_section vector_bytes store.0 (tree_of tree.entry) (width_bytes width) elements.0) }
+    requires { Root (root_of links.now) store.0 × Roomy section.old × (elements.0 ≤ elements_most) }
+    ensures { Written section.old section.new 0 result (only_section vector_bytes store.0 (root_of links.now) (width_bytes width) elements.0) }
 {
     let mut writer = Writer::new(section);
-    let blocks = put_blocks(tree, store, &mut writer);
+    let blocks = put_blocks(links, store, &mut writer);
     let start = store_offset(store);
     let len = byte_of_element(width, elements);
     let end = ByteOffset(start.0 + len.0);
@@ -64,12 +65,12 @@ pub(crate) fn put_only(
 }
 
 // F ≥ 1: the new block from c on. How many rows it has.
-pub(crate) fn put_prologue(tree: Subtree, store: ByteOffset, section: &mut [u32]) -> u32
-    requires { RootAt tree store.0 × Roomy section.old }
-    ensures { Written section.old section.new 0 result (prologue_section vector_bytes store.0 (tree_of tree.entry)) }
+pub(crate) fn put_prologue(links: &Links, store: ByteOffset, section: &mut [u32]) -> u32
+    requires { Root (root_of links.now) store.0 × Roomy section.old }
+    ensures { Written section.old section.new 0 result (prologue_section vector_bytes store.0 (root_of links.now)) }
 {
     let mut writer = Writer::new(section);
-    let blocks = put_blocks(tree, store, &mut writer);
+    let blocks = put_blocks(links, store, &mut writer);
     let from_start = writer.splice(blocks.old, blocks.new, store_offset(store));
     writer.store(from_start, store);
     writer.row
@@ -77,39 +78,39 @@ pub(crate) fn put_prologue(tree: Subtree, store: ByteOffset, section: &mut [u32]
 
 // The whole new block, if there are passes for it. How many rows it has.
 pub(crate) fn put_body(
-    tree: Subtree,
+    links: &Links,
     store: ByteOffset,
     full: VectorNumber,
     section: &mut [u32],
 ) -> u32
-    requires { RootAt tree store.0 × Roomy section.old }
-    ensures { Written section.old section.new 0 result (body_of vector_bytes store.0 (tree_of tree.entry) full.0) }
+    requires { Root (root_of links.now) store.0 × Roomy section.old }
+    ensures { Written section.old section.new 0 result (body_of vector_bytes store.0 (root_of links.now) full.0) }
 {
     if full.0 < BODY_FROM {
         return 0;
     }
     let mut writer = Writer::new(section);
-    let new = gen_expr(tree, VectorNumber(BLOCK_ZERO), &mut writer);
+    let new = gen_expr(links, links.root(), VectorNumber(BLOCK_ZERO), &mut writer);
     writer.store(new, store);
     writer.row
 }
 
 // The first eD bytes of the new block, if there are elements left. How many rows it has.
 pub(crate) fn put_epilogue(
-    tree: Subtree,
+    links: &Links,
     store: ByteOffset,
     width: Width,
     rest: ElementNumber,
     section: &mut [u32],
 ) -> u32
-    requires { RootAt tree store.0 × Roomy section.old × (rest.0 ≤ elements_most) }
-    ensures { Written section.old section.new 0 result (epilogue_of vector_bytes (width_bytes width) store.0 (tree_of tree.entry) rest.0) }
+    requires { Root (root_of links.now) store.0 × Roomy section.old × (rest.0 ≤ elements_most) }
+    ensures { Written section.old section.new 0 result (epilogue_of vector_bytes (width_bytes width) store.0 (root_of links.now) rest.0) }
 {
     if rest.0 == 0 {
         return 0;
     }
     let mut writer = Writer::new(section);
-    let blocks = put_blocks(tree, store, &mut writer);
+    let blocks = put_blocks(links, store, &mut writer);
     let to_end = writer.splice(blocks.new, blocks.old, byte_of_element(width, rest));
     writer.store(to_end, store);
     writer.row
