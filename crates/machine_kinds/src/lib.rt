@@ -1,6 +1,6 @@
 // An instruction of each kind but the splat, in one pass (document 01, "Vector code"): load, the operations, vshiftpair, vsplice,
 // store. False is a FAULT, and then nothing is changed.
-#![tactic(auto)]
+#![tactic(auto, unfolding(crate::specs::Trying::try_as, rules::specs::Machine::fields_as, rules::specs::Machine::reaches_as, rules::specs::Machine::effect_as))]
 
 ghost use Rattle.std.specs.Prelude.{◌≡◌, true, false, [], ◌<◌, MatchOption};
 ghost use Rattle.rules.specs.Limits.{registers};
@@ -50,7 +50,6 @@ impl Operands {
     }
 }
 
-#[tactic(auto, unfolding(crate::specs::Trying::try_as, rules::specs::Machine::fields_as, rules::specs::Machine::reaches_as, rules::specs::Machine::effect_as))]
 pub fn do_load<'a>(
     i: Instruction,
     pass: VectorNumber,
@@ -73,7 +72,6 @@ fn operate<E: Lane>(operation: u32, r: Operands, file: &mut Registers)
     file[r.destination] = vector_lanes::vop::<E>(operation, file[r.a], file[r.b]);
 }
 
-#[tactic(auto, unfolding(crate::specs::Trying::try_as, rules::specs::Machine::fields_as, rules::specs::Machine::reaches_as, rules::specs::Machine::effect_as))]
 pub fn do_op(width: Width, i: Instruction, registers: &mut Registers) -> bool
     ensures { Tries op_kind (width_bytes width) i result registers.old registers.new }
 {
@@ -92,7 +90,6 @@ pub fn do_op(width: Width, i: Instruction, registers: &mut Registers) -> bool
     true
 }
 
-#[tactic(auto, unfolding(crate::specs::Trying::try_as, rules::specs::Machine::fields_as, rules::specs::Machine::reaches_as, rules::specs::Machine::effect_as))]
 pub fn do_pair(i: Instruction, registers: &mut Registers) -> bool
     ensures { Tries pair_kind any_width i result registers.old registers.new }
 {
@@ -106,7 +103,6 @@ pub fn do_pair(i: Instruction, registers: &mut Registers) -> bool
     true
 }
 
-#[tactic(auto, unfolding(crate::specs::Trying::try_as, rules::specs::Machine::fields_as, rules::specs::Machine::reaches_as, rules::specs::Machine::effect_as))]
 pub fn do_splice(i: Instruction, registers: &mut Registers) -> bool
     ensures { Tries splice_kind any_width i result registers.old registers.new }
 {
@@ -120,7 +116,6 @@ pub fn do_splice(i: Instruction, registers: &mut Registers) -> bool
     true
 }
 
-#[tactic(auto, unfolding(crate::specs::Trying::try_as, rules::specs::Machine::fields_as, rules::specs::Machine::reaches_as, rules::specs::Machine::effect_as))]
 pub fn do_store(i: Instruction, pass: VectorNumber, registers: &Registers, work: &mut [u8]) -> bool
     ensures { tried result registers.now work.new ≡ try_as store_kind any_width [] pass.0 i registers.now work.old }
 {

@@ -59,10 +59,10 @@ pub fn vshiftpair(v1: Vector, v2: Vector, amount: u32) -> Vector
 pub fn vsplice(v1: Vector, v2: Vector, amount: u32) -> Vector
     ensures { result ≡ vsplice v1 v2 amount }
 {
-    let stop = (amount as usize).min(VECTOR_BYTES) as u8;
+    let stop = amount as usize;
     let mut r = [0u8; VECTOR_BYTES];
     for i in 0..VECTOR_BYTES {
-        r[i] = if (i as u8) < stop { v1[i] } else { v2[i] };
+        r[i] = if i < stop { v1[i] } else { v2[i] };
     }
     r
 }
