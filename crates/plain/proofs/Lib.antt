@@ -1,4 +1,3 @@
-pub mod WindowLaws
 pub mod ValueLaws
 pub mod LoopLaws
 pub mod JudgeLaws

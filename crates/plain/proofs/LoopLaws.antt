@@ -1,21 +1,23 @@
 -- The loop: after i elements work is as the definition has it, and its length is kept, so that the next element can be evaluated
 -- and stored.
-use Prim.Native.Nat.{ℕ, suc, ◌+◌, ◌-◌, ◌*◌, ◌≤◌, ◌<◌}
-use mathlib.Core.Path.{◌≡◌, refl, ◌∙◌}
+use Prim.Native.Nat.{ℕ, ◌+◌, ◌-◌, ◌*◌, ◌≤◌, ◌<◌}
+use mathlib.Core.Path.{◌≡◌, refl, sym, ap, ◌∙◌}
 use mathlib.Core.List.{List}
 use native.Mathlib.Nat.{suc-mul, mul-le-mul_right}
 use native.Mathlib.Numerals.{add-one}
 use native.Mathlib.Omega.{arith}
 use lib.ListN.{length}
-use lib.Seq.{paste}
+use lib.Seq.{paste, length-paste}
+use borrow.Rule.Slice.PartMut.{put_mid}
+use Rattle.std.proofs.lemmas.Slice.{put_mid-paste}
 use Rattle.rules.specs.Elements.{to_bytes}
 use Rattle.rules.specs.Trees.{Tree, node_at, tree_at}
-use Rattle.rules.specs.PlainLoop.{plain}
+use Rattle.rules.specs.PlainLoop.{plain, value}
 use Rattle.rules.specs.Tables.{Graph}
 use Rattle.rules.specs.Calls.{graph_plain}
+use Rattle.theory.proofs.Numbers.{length_to_bytes}
 use Rattle.graph.proofs.InputLaws.{root_tree}
-use Rattle.plain.specs.Evaluating.{Evaluable, Loopable, Valued}
-use Rattle.plain.proofs.ValueLaws.{evaluable_fewer}
+use Rattle.plain.specs.Evaluating.{Loopable}
 
 -- how work stands after the first i of n elements
 pub record After (D S n : ℕ) (t : Tree) (work₀ table : List ℕ) (i : ℕ) (work : List ℕ) : Type 0 where
@@ -32,21 +34,22 @@ root g = tree_at (node_at g.nodes) (g.N - 1)
 
 module _ {g : Graph} {left work₀ table work : List ℕ} {i : ℕ} (c : Loopable g left (length work₀) (length table))
     (a : After g.D g.S g.n (root g) work₀ table i work) where
-  -- element i can be evaluated
-  pub next_evaluable : i < g.n → Evaluable g.D (suc i) (suc (g.N - 1)) g.nodes left (length work) (length table)
-  next_evaluable more = rw a.long (evaluable_fewer c.evaluable (suc i) (suc (g.N - 1)) more (omega (arith, c.rooted)))
+  -- element i lies in work
+  fits : i < g.n → g.S + i * g.D + g.D ≤ length work
+  fits more = omega (arith, a.long, c.bounds, mul-le-mul_right g.D more, suc-mul i g.D)
 
-  -- and stored
-  pub next_fits : i < g.n → g.S + i * g.D + g.D ≤ length work
-  next_fits more = omega (arith, a.long, c.bounds, mul-le-mul_right g.D more, suc-mul i g.D)
-
-  pub next_after : {found : ℕ} {then : List ℕ} → i < g.n → Valued g.D i (g.N - 1) g.nodes work table found
-      → length then ≡ length work → then ≡ paste work (g.S + i * g.D) (to_bytes g.D found) g.D
-      → After g.D g.S g.n (root g) work₀ table (i + 1) then
+  -- its bytes written there
+  pub next_after : {found at k : ℕ} {bytes : List ℕ} → i < g.n → found ≡ value g.D work table (root g) i → at ≡ g.S + i * g.D → k ≡ g.D
+      → bytes ≡ to_bytes g.D found → After g.D g.S g.n (root g) work₀ table (i + 1) (put_mid at k work bytes)
   unfolding plain
-  next_after more v l e =
+  next_after {found} {at} {k} {bytes} more v place count b =
+      let of : List ℕ = to_bytes g.D found in
       let w = a.so in
-      record { some = omega arith; long = l ∙ a.long; so = rw (add-one i, ← w) (e ∙ rw v.is) }
+      let e : put_mid at k work bytes ≡ paste work (g.S + i * g.D) of g.D =
+      put_mid-paste at k work bytes of g.D b (sym count) (sym (length_to_bytes g.D found)) ∙ ap (λ (x : ℕ). paste work x of g.D) place in
+      let long : length (put_mid at k work bytes) ≡ length work =
+      ap length e ∙ length-paste work (g.S + i * g.D) of g.D (fits more) (omega (arith, length_to_bytes g.D found)) in
+      record { some = omega arith; long = long ∙ a.long; so = rw (add-one i, ← w) (e ∙ rw v) }
 
   pub ends : g.n ≤ i → work ≡ graph_plain g work₀ table
   ends h =

@@ -6,16 +6,15 @@ use mathlib.Core.List.{List}
 use native.Mathlib.Nat.{le_trans, mul-le-mul_right, mod-eq_of_lt}
 use native.Mathlib.Omega.{arith}
 use lib.ListN.{get_or}
-use Rattle.rules.specs.Elements.{modulus, operate}
-use Rattle.rules.specs.Trees.{node_at}
+use Rattle.rules.specs.Elements.{element, modulus, operate}
+use Rattle.rules.specs.Trees.{node_at, tree_at}
 use Rattle.rules.specs.PlainLoop.{window, value}
 use Rattle.rules.specs.declared.nodes.LoadAt.{LoadAt}
 use Rattle.rules.specs.declared.nodes.ShiftBy.{ShiftBy}
 use Rattle.rules.specs.declared.nodes.Node.{Node}
 use Rattle.rules.specs.declared.nodes.Node.TheVariants.{Load, Splat, Op, Shift}
-use Rattle.theory.proofs.Numbers.{operate_lt}
 use Rattle.graph.specs.Links.{left_in, LinkedAt, Linked}
-use Rattle.plain.specs.Evaluating.{Ranged, Evaluable, ElementAt, Valued}
+use Rattle.plain.specs.Evaluating.{Ranged, Evaluable}
 
 -- ---- fewer nodes, fewer elements
 
@@ -56,14 +55,17 @@ module _ {D i k work_len table_len : ℕ} {nodes left : List ℕ} (e : Evaluable
   input_below : (input : ℕ) → input < k → Input D i k input nodes left work_len table_len
   input_below input h = record { falls = h; has = evaluable_fewer e (suc i) (suc input) (omega arith) (omega arith) }
 
-  pub load_valued : {a : LoadAt} {work table : List ℕ} {r : ℕ} → Load a ≡ node_at nodes k
-      → ElementAt D (window a.window work table) (a.address.0 + i * D) r → Valued D i k nodes work table r
+  pub load_valued : {a : LoadAt} (work table : List ℕ) {r : ℕ} → Load a ≡ node_at nodes k
+      → r ≡ element D (window a.window work table) (a.address.0 + i * D) → r ≡ value D work table (tree_at (node_at nodes) k) i
   unfolding value
-  load_valued {a} n p = record { is = rw (here_linked (Load a) n) p.is; fits = p.fits }
+  load_valued {a} work table n e = rw (here_linked (Load a) n) e
 
-  pub splat_valued : {v : ℕ} {work table : List ℕ} → Splat v ≡ node_at nodes k → Valued D i k nodes work table v
+  pub splat_valued : {v : ℕ} (work table : List ℕ) {r : ℕ} → Splat v ≡ node_at nodes k → r ≡ v % modulus D
+      → r ≡ value D work table (tree_at (node_at nodes) k) i
   unfolding value
-  splat_valued {v} n = record { is = rw (here_linked (Splat v) n); fits = here_ranged (Splat v) n }
+  splat_valued {v} work table n e =
+      let small : v < modulus D = here_ranged (Splat v) n in
+      rw (here_linked (Splat v) n) (e ∙ mod-eq_of_lt small)
 
   pub op_left : {o : ℕ} → Op o ≡ node_at nodes k → Input D i k (get_or left k 0) nodes left work_len table_len
   op_left {o} n = input_below (get_or left k 0) (here_linked (Op o) n).0
@@ -71,20 +73,16 @@ module _ {D i k work_len table_len : ℕ} {nodes left : List ℕ} (e : Evaluable
   pub op_right : {o : ℕ} → Op o ≡ node_at nodes k → Input D i k (k - 1) nodes left work_len table_len
   op_right {o} n = input_below (k - 1) (omega (arith, (here_linked (Op o) n).0))
 
-  pub op_valued : {o : ℕ} {work table : List ℕ} {x y r : ℕ} → Op o ≡ node_at nodes k → Valued D i (get_or left k 0) nodes work table x
-      → Valued D i (k - 1) nodes work table y → r ≡ operate D o (x % modulus D) (y % modulus D) → Valued D i k nodes work table r
+  pub op_valued : {o : ℕ} (work table : List ℕ) {x y r : ℕ} → Op o ≡ node_at nodes k
+      → x ≡ value D work table (tree_at (node_at nodes) (get_or left k 0)) i → y ≡ value D work table (tree_at (node_at nodes) (k - 1)) i
+      → r ≡ operate D o x y → r ≡ value D work table (tree_at (node_at nodes) k) i
   unfolding value
-  op_valued {o} {x = x} {y = y} {r = r} n p q h =
-      let w : r ≡ operate D o x y = h ∙ rw (mod-eq_of_lt p.fits, mod-eq_of_lt q.fits) in
-      record {
-        is = rw ((here_linked (Op o) n).1, ← p.is, ← q.is) w;
-        fits = rw w (operate_lt D o x y p.fits q.fits);
-      }
+  op_valued {o} work table n p q h = rw ((here_linked (Op o) n).1, ← p, ← q) h
 
   pub shift_child : {s : ShiftBy} → Shift s ≡ node_at nodes k → Input D i k (k - 1) nodes left work_len table_len
   shift_child {s} n = input_below (k - 1) (omega (arith, (here_linked (Shift s) n).0))
 
-  pub shift_valued : {s : ShiftBy} {work table : List ℕ} {r : ℕ} → Shift s ≡ node_at nodes k → Valued D i (k - 1) nodes work table r
-      → Valued D i k nodes work table r
+  pub shift_valued : {s : ShiftBy} (work table : List ℕ) {r : ℕ} → Shift s ≡ node_at nodes k
+      → r ≡ value D work table (tree_at (node_at nodes) (k - 1)) i → r ≡ value D work table (tree_at (node_at nodes) k) i
   unfolding value
-  shift_valued {s} n p = record { is = rw (here_linked (Shift s) n).1 p.is; fits = p.fits }
+  shift_valued {s} work table n e = rw (here_linked (Shift s) n).1 e

@@ -3,7 +3,6 @@
 
 mod looping;
 mod values;
-mod windows;
 
 ghost use Rattle.std.specs.Prelude.{◌≡◌};
 ghost use Rattle.rules.specs.Limits.{vector_bytes};

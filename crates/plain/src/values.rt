@@ -1,71 +1,84 @@
 // The value of the tree at an element: by recursion on node numbers, since a node's inputs have lower numbers than the node.
 ghost use Rattle.std.specs.Prelude.{◌≡◌, ◌+◌, ◌*◌, ◌≤◌};
 ghost use Rattle.rules.specs.Limits.{elements_most, address_most};
-ghost use Rattle.rules.specs.Units.{width_bytes};
-ghost use Rattle.rules.specs.Trees.{bytes};
+ghost use Rattle.rules.specs.Units.{byte_of_element};
+ghost use Rattle.rules.specs.Elements.{operate};
 ghost use Rattle.rules.specs.PlainLoop.{window};
-ghost use Rattle.plain.specs.Evaluating.{HasLoad, IsLoaded, HasValue, IsValue};
+ghost use Rattle.plain.specs.Evaluating.{HasLoad, loaded_at, HasValue, value_at};
 
-use crate::windows;
-use rules::limits::{NODES, WORK};
+use graph::ROWS;
+use operations::Operation;
+use operations::elements::Element;
+use rules::limits::WORK;
 use rules::nodes::{LoadAt, Node};
-use rules::units::{ByteOffset, ElementNumber, Width};
+use rules::units::{ByteOffset, ElementNumber};
+use vector_elements::Lane;
 
-// Places for the left inputs of 64 nodes.
-pub(crate) const ROWS: usize = NODES as usize;
-
-// An element as the loop comes to it: the graph's nodes and the left input of each op, the element's number and width, and the
-// windows as they then stand.
+// A turn of the loop: the graph's nodes and the left input of each op, the element's number, and the windows as they then stand.
 #[derive(Clone, Copy)]
-pub(crate) struct Element<'a> {
+pub(crate) struct Turn<'a> {
     pub nodes: &'a [u64],
     pub left: &'a [u8; ROWS],
     pub number: ElementNumber,
-    pub width: Width,
     pub work: &'a [u8],
     pub table: &'a [u8],
 }
 
-impl<'a> Element<'a> {
+// The byte at which element i of a stream begins, from the stream's start.
+fn byte_of_element<E: Element>(i: ElementNumber) -> ByteOffset
+    requires { i.0 ≤ elements_most }
+    ensures { result ≡ byte_of_element E.BYTES i }
+{
+    ByteOffset(i.0 * E::BYTES as u64)
+}
+
+// An operation above the last is the last.
+#[tactic(auto, using(operations::proofs::OperationLaws::known))]
+fn operate<E: Element>(operation: u64, x: E, y: E) -> E
+    ensures { E.value result ≡ operate E.BYTES operation (E.value x) (E.value y) }
+{
+    let known = Operation::try_from(operation).unwrap_or(Operation::SignedMaximum);
+    operations::operated(known, x, y)
+}
+
+impl<'a> Turn<'a> {
     fn window(&self, which: u64) -> &'a [u8]
         ensures { result.now ≡ window which self.now.work.now self.now.table.now }
     {
         if which == WORK { self.work } else { self.table }
     }
 
-    // Its address in the stream that starts at an address.
-    pub fn address_in(&self, start: ByteOffset) -> ByteOffset
+    // The address of the turn's element in the stream that starts at an address.
+    pub fn address_in<E: Element>(&self, start: ByteOffset) -> usize
         requires few { self.now.number.0 ≤ elements_most }
         requires near { start.0 ≤ address_most }
-        ensures { result ≡ bytes (start.0 + self.now.number.0 * width_bytes self.now.width) }
+        ensures { result ≡ start.0 + self.now.number.0 * E.BYTES }
     {
-        ByteOffset(start.0 + windows::byte_of_element(self.width, self.number).0)
+        (start.0 + byte_of_element::<E>(self.number).0) as usize
     }
 
     // "A load at i reads D bytes at A+iD from the window as it then stands."
-    fn loaded(&self, load: LoadAt) -> u64
-        requires { HasLoad self.now load }
-        ensures { IsLoaded self.now load result }
+    #[tactic(auto, unfolding(rules::specs::Elements::element))]
+    fn loaded<E: Lane>(&self, load: LoadAt) -> E
+        requires { HasLoad E.BYTES self.now load }
+        ensures { E.value result ≡ loaded_at E.BYTES self.now load }
     {
-        windows::element_at(
-            self.window(load.window),
-            self.address_in(load.address),
-            self.width,
-        )
+        let at = self.address_in::<E>(load.address);
+        E::read(&self.window(load.window)[at..at + E::BYTES])
     }
 
     // The value of the tree that ends at node k.
-    pub fn value(&self, k: u8) -> u64
-        requires { HasValue self.now k }
-        ensures { IsValue self.now k result }
+    pub fn value<E: Lane>(&self, k: u8) -> E
+        requires { HasValue E.BYTES self.now k }
+        ensures { E.value result ≡ value_at E.BYTES self.now k }
     {
         match tables::node_at(self.nodes, k) {
             Node::Load(load) => self.loaded(load),
-            Node::Splat(splat) => splat,
+            Node::Splat(splat) => E::cut(splat),
             Node::Op(operation) => {
-                let x = self.value(self.left[k as usize]);
-                let y = self.value(k - 1);
-                operations::operate(self.width, operation, x, y)
+                let x: E = self.value(self.left[k as usize]);
+                let y: E = self.value(k - 1);
+                operate(operation, x, y)
             }
             Node::Shift(_) => self.value(k - 1),
         }
