@@ -1,9 +1,8 @@
 -- A D that is a width is read back from it.
-use Prim.Native.Nat.{ℕ, zero, suc}
+use Prim.Native.Nat.{ℕ}
 use mathlib.Core.Path.{◌≡◌, refl}
 use mathlib.Core.Bool.{true}
 use Rattle.rules.specs.Units.{width_bytes, is_width}
-use Rattle.rules.specs.Ranges.{takes}
 use Rattle.theory.proofs.Checked.{width_is}
 use Rattle.ranges.specs.Widths.{width_of}
 

@@ -1,5 +1,5 @@
 -- A table filled with 0 is padded from nothing.
-use mathlib.Core.Path.{◌∙◌, sym}
+use mathlib.Core.Path.{◌∙◌}
 use lib.ListN.{length}
 use Rattle.tables.proofs.TableLaws.{padded_none}
 use Rattle.tables.proofs.clear.Goals as goal
