@@ -42,16 +42,16 @@ modulus_even : (D : ℕ) → vector_bytes / D * D ≡ vector_bytes → modulus D
 modulus_even zero w = absurd (omega arith)
 modulus_even (suc D) w = rw (modulus_is (suc D), pow-suc 256 D) (omega arith)
 
-at_half : (D h : ℕ) {x y a b : ℕ} → modulus D ≡ h + h → x < modulus D → y < modulus D
+pub signed_order : (D h : ℕ) {x y a b : ℕ} → modulus D ≡ h + h → x < modulus D → y < modulus D
     → a ≡ (x + h) % modulus D → b ≡ (y + h) % modulus D → ltb a b ≡ signed_less D x y
 unfolding signed_less negative
-at_half D h {x} {y} e hx hy p q =
+signed_order D h {x} {y} e hx hy p q =
     let k : modulus D / 2 ≡ h = omega arith in
     rw (p, q, k, e) (turned_order h x y (rw e at hx) (rw e at hy))
 
-pub signed_order : (D : ℕ) {x y a b : ℕ} → vector_bytes / D * D ≡ vector_bytes → x < modulus D → y < modulus D
+pub signed_order_whole : (D : ℕ) {x y a b : ℕ} → vector_bytes / D * D ≡ vector_bytes → x < modulus D → y < modulus D
     → a ≡ (x + modulus D / 2) % modulus D → b ≡ (y + modulus D / 2) % modulus D → ltb a b ≡ signed_less D x y
-signed_order D w = at_half D (modulus D / 2) (modulus_even D w)
+signed_order_whole D w = signed_order D (modulus D / 2) (modulus_even D w)
 
 -- ---- an operation above the last is the last
 pub known : (D o x y : ℕ) → operate D (operation_number (result_unwrap_or (operation_of o) SignedMaximum)) x y ≡ operate D o x y

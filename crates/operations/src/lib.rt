@@ -67,24 +67,30 @@ pub fn operated<E: Element>(operation: Operation, x: E, y: E) -> E
     }
 }
 
-// The operation on two numbers, each cut to the width of E first.
-fn operated_on_cut<E: Element>(operation: Operation, x: u64, y: u64) -> u64
-    ensures { result ≡ operate E.BYTES (operation_number operation) (x % modulus E.BYTES) (y % modulus E.BYTES) }
+// The operation of a number on two elements of one width. One above the last is the last.
+#[tactic(auto, using(crate::proofs::OperationLaws::known))]
+pub fn operate_as<E: Element>(operation: u64, x: E, y: E) -> E
+    ensures { E.value result ≡ operate E.BYTES operation (E.value x) (E.value y) }
 {
-    operated(operation, E::cut(x), E::cut(y)).number()
+    let known = Operation::try_from(operation).unwrap_or(Operation::SignedMaximum);
+    operated(known, x, y)
 }
 
-// The operation on two elements of a width that only a run knows; what does not fit the width is cut off first. An operation above
-// the last is the last.
-#[tactic(auto, using(crate::proofs::OperationLaws::known))]
+// The operation on two numbers, each cut to the width of E first.
+fn operate_on_cut<E: Element>(operation: u64, x: u64, y: u64) -> u64
+    ensures { result ≡ operate E.BYTES operation (x % modulus E.BYTES) (y % modulus E.BYTES) }
+{
+    operate_as(operation, E::cut(x), E::cut(y)).number()
+}
+
+// The operation on two elements of a width that only a run knows; what does not fit the width is cut off first.
 pub fn operate(width: Width, operation: u64, x: u64, y: u64) -> u64
     ensures { result ≡ operate (width_bytes width) operation (x % modulus (width_bytes width)) (y % modulus (width_bytes width)) }
 {
-    let known = Operation::try_from(operation).unwrap_or(Operation::SignedMaximum);
     match width {
-        Width::One => operated_on_cut::<u8>(known, x, y),
-        Width::Two => operated_on_cut::<u16>(known, x, y),
-        Width::Four => operated_on_cut::<u32>(known, x, y),
-        Width::Eight => operated_on_cut::<u64>(known, x, y),
+        Width::One => operate_on_cut::<u8>(operation, x, y),
+        Width::Two => operate_on_cut::<u16>(operation, x, y),
+        Width::Four => operate_on_cut::<u32>(operation, x, y),
+        Width::Eight => operate_on_cut::<u64>(operation, x, y),
     }
 }

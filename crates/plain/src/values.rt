@@ -2,12 +2,10 @@
 ghost use Rattle.std.specs.Prelude.{◌≡◌, ◌+◌, ◌*◌, ◌≤◌};
 ghost use Rattle.rules.specs.Limits.{elements_most, address_most};
 ghost use Rattle.rules.specs.Units.{byte_of_element};
-ghost use Rattle.rules.specs.Elements.{operate};
 ghost use Rattle.rules.specs.PlainLoop.{window};
 ghost use Rattle.plain.specs.Evaluating.{HasLoad, loaded_at, HasValue, value_at};
 
 use graph::ROWS;
-use operations::Operation;
 use operations::elements::Element;
 use rules::limits::WORK;
 use rules::nodes::{LoadAt, Node};
@@ -30,15 +28,6 @@ fn byte_of_element<E: Element>(i: ElementNumber) -> ByteOffset
     ensures { result ≡ byte_of_element E.BYTES i }
 {
     ByteOffset(i.0 * E::BYTES as u64)
-}
-
-// An operation above the last is the last.
-#[tactic(auto, using(operations::proofs::OperationLaws::known))]
-fn operate<E: Element>(operation: u64, x: E, y: E) -> E
-    ensures { E.value result ≡ operate E.BYTES operation (E.value x) (E.value y) }
-{
-    let known = Operation::try_from(operation).unwrap_or(Operation::SignedMaximum);
-    operations::operated(known, x, y)
 }
 
 impl<'a> Turn<'a> {
@@ -78,7 +67,7 @@ impl<'a> Turn<'a> {
             Node::Op(operation) => {
                 let x: E = self.value(self.left[k as usize]);
                 let y: E = self.value(k - 1);
-                operate(operation, x, y)
+                operations::operate_as(operation, x, y)
             }
             Node::Shift(_) => self.value(k - 1),
         }

@@ -37,7 +37,7 @@ returns-in-Splat g t c =
 pub returns-in-Op : goal.returns-in-Op
 returns-in-Op g t c =
     let turn = c.args.self.now in
-    op_valued c.requires turn.work.now turn.table.now c.in-Op.ensures c.value-x.ensures c.value-y.ensures c.operate.ensures
+    op_valued c.requires turn.work.now turn.table.now c.in-Op.ensures c.value-x.ensures c.value-y.ensures c.operate_as.ensures
 
 pub returns-in-Shift : goal.returns-in-Shift
 returns-in-Shift g t c =
