@@ -38,7 +38,7 @@ impl<'a> Turn<'a> {
     }
 
     // The address of the turn's element in the stream that starts at an address.
-    pub fn address_in<E: Element>(&self, start: ByteOffset) -> usize
+    pub(crate) fn address_in<E: Element>(&self, start: ByteOffset) -> usize
         requires few { self.now.number.0 ≤ elements_most }
         requires near { start.0 ≤ address_most }
         ensures { result ≡ start.0 + self.now.number.0 * E.BYTES }
@@ -57,7 +57,7 @@ impl<'a> Turn<'a> {
     }
 
     // The value of the tree that ends at node k.
-    pub fn value<E: Lane>(&self, k: u8) -> E
+    pub(crate) fn value<E: Lane>(&self, k: u8) -> E
         requires { HasValue E.BYTES self.now k }
         ensures { E.value result ≡ value_at E.BYTES self.now k }
     {
