@@ -141,14 +141,20 @@ impl<'a> Writer<'a> {
     }
 }
 
-// A row that does not lie in the section is not written.
+// A row that does not lie in the section is not written. Its entries are written one by one: of an array of them the compiler makes
+// a copy in memory first, and a row waits for it.
 fn put_row(section: &mut [u32], row: u32, i: Instruction)
     ensures { section.new ≡ row_put section.old row i }
 {
     let at = INSTRUCTION_ENTRIES * (row as usize);
     let end = at + INSTRUCTION_ENTRIES;
     if end <= section.len() {
-        section[at..end].copy_from_slice(&[i.kind, i.destination, i.a, i.b, i.low, i.high]);
+        section[at] = i.kind;
+        section[at + 1] = i.destination;
+        section[at + 2] = i.a;
+        section[at + 3] = i.b;
+        section[at + 4] = i.low;
+        section[at + 5] = i.high;
     }
 }
 
