@@ -3,6 +3,7 @@ ghost use Rattle.std.specs.Prelude.{◌≡◌};
 ghost use Rattle.rules.specs.Kinds.{frame_kind, frame_number, instruction_kind, instruction_number, rule_of};
 
 use crate::answers::Refusal;
+use crate::limits::{LOAD_KIND, OP_KIND, RULES_MOST, SHIFT_KIND, SPLAT_KIND};
 
 // A number that names none.
 #[derive(Clone, Copy, PartialEq, Eq)]
@@ -25,10 +26,10 @@ impl FrameKind {
     {
         match self {
             FrameKind::Header => 0,
-            FrameKind::Load => 1,
-            FrameKind::Splat => 2,
-            FrameKind::Op => 3,
-            FrameKind::Shift => 4,
+            FrameKind::Load => LOAD_KIND,
+            FrameKind::Splat => SPLAT_KIND,
+            FrameKind::Op => OP_KIND,
+            FrameKind::Shift => SHIFT_KIND,
             FrameKind::End => 5,
         }
     }
@@ -42,10 +43,10 @@ impl TryFrom<u64> for FrameKind {
     fn try_from(number: u64) -> Result<FrameKind, Unknown> {
         match number {
             0 => Ok(FrameKind::Header),
-            1 => Ok(FrameKind::Load),
-            2 => Ok(FrameKind::Splat),
-            3 => Ok(FrameKind::Op),
-            4 => Ok(FrameKind::Shift),
+            LOAD_KIND => Ok(FrameKind::Load),
+            SPLAT_KIND => Ok(FrameKind::Splat),
+            OP_KIND => Ok(FrameKind::Op),
+            SHIFT_KIND => Ok(FrameKind::Shift),
             5 => Ok(FrameKind::End),
             _ => Err(Unknown(number)),
         }
@@ -116,7 +117,7 @@ impl TryFrom<u64> for Rule {
             0 => Ok(Rule::Zero),
             1 => Ok(Rule::Eager),
             2 => Ok(Rule::Lazy),
-            3 => Ok(Rule::Dominant),
+            RULES_MOST => Ok(Rule::Dominant),
             _ => Err(Refusal::Range(0)),
         }
     }
