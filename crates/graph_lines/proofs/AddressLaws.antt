@@ -5,8 +5,17 @@ use native.Mathlib.Nat.{div-lt_iff_lt-mul}
 use native.Mathlib.Omega.{arith}
 use borrow.Author.Tests.{lt-ltb, le-ltb}
 use lib.Dec.{ltb}
+use Rattle.rules.specs.Units.{width_bytes}
 use Rattle.rules.specs.Checks.{beyond}
+use Rattle.rules.specs.declared.units.Width.{Width}
+use Rattle.rules.specs.declared.units.Width.TheVariants.{One, Two, Four, Eight}
 use Rattle.theory.proofs.Lists.{split}
+
+pub width_positive : (width : Width) → 0 < width_bytes width
+width_positive One = omega arith
+width_positive Two = omega arith
+width_positive Four = omega arith
+width_positive Eight = omega arith
 
 -- so many elements have room, and n are wanted
 pub few_have_room : (D n address end : ℕ) → 0 < D → address ≤ end → ltb ((end - address) / D) n ≡ beyond D n address end

@@ -1,5 +1,5 @@
 -- The whole check from its parts: the nodes, the root, and the form before them.
-use Rattle.std.proofs.Common.{◌≡◌, ℕ, ◌%◌, true, false, not, List, [], ◌∷◌, sym, ◌∙◌}
+use Rattle.std.proofs.Common.{◌≡◌, ℕ, suc, ◌%◌, true, false, not, List, [], ◌∷◌, sym, ◌∙◌}
 use Rattle.std.specs.Prelude.{Ok, Err}
 use Rattle.rules.specs.Limits.{vector_bytes}
 use Rattle.rules.specs.Answers.{OFFSET, at, done, refuse_if, first, of_refusal}
@@ -9,10 +9,12 @@ use Rattle.rules.specs.Tables.{Graph, graph_of}
 use Rattle.rules.specs.Checks.{store_line, offset_row, offset_check}
 use Rattle.rules.specs.Calls.{checking, offset_checking}
 use Rattle.rules.specs.declared.answers.Refusal.{Refusal}
+use Rattle.rules.specs.declared.answers.Refusal.TheVariants.{Room, Line, Range, Shape, Bare, Window, Align, Bounds, Carry, Long, Out, Fault}
+use Rattle.rules.specs.declared.answers.Refusal.TheVariants as Refused
 use Rattle.rules.specs.declared.nodes.Offset.{Offset}
 use Rattle.rules.specs.declared.nodes.Offset.TheVariants.{At}
 use Rattle.theory.proofs.FormLaws.{first_each}
-use Rattle.theory.proofs.Firsts.{first_alone, first_passed}
+use Rattle.theory.proofs.Firsts.{first_alone, first_passed, first_refused}
 use Rattle.graph.specs.declared.headers.Header.{Header}
 use Rattle.graph.proofs.HeaderLaws.{refusal_first}
 use Rattle.graph_offsets.specs.Judging.{NodesFound}
@@ -40,10 +42,28 @@ module _ (g : Graph) where
 
 -- ---- the form first
 
-pub form_refuses : (head nodes : List ℕ) (refusal : Refusal) → of_refusal refusal ≡ checking vector_bytes head nodes
+pub form_refuses : (head nodes : List ℕ) (number place : ℕ) → checking vector_bytes head nodes ≡ at (suc number) place
+    → at (suc number) place ≡ offset_checking vector_bytes head nodes
+unfolding offset_checking
+form_refuses head nodes number place e = sym (first_refused _ _ number place e)
+
+-- by the refusal that the form gave
+pub form_refusal : (head nodes : List ℕ) (refusal : Refusal) → of_refusal refusal ≡ checking vector_bytes head nodes
     → of_refusal refusal ≡ offset_checking vector_bytes head nodes
 unfolding offset_checking
-form_refuses head nodes refusal e = sym (refusal_first refusal _ _ (sym e))
+form_refusal head nodes Room e = form_refuses head nodes 0 0 (sym e)
+form_refusal head nodes (Line k) e = form_refuses head nodes 1 k (sym e)
+form_refusal head nodes (Range k) e = form_refuses head nodes 2 k (sym e)
+form_refusal head nodes (Shape k) e = form_refuses head nodes 3 k (sym e)
+form_refusal head nodes (Bare k) e = form_refuses head nodes 4 k (sym e)
+form_refusal head nodes (Window k) e = form_refuses head nodes 5 k (sym e)
+form_refusal head nodes (Align k) e = form_refuses head nodes 6 k (sym e)
+form_refusal head nodes (Bounds k) e = form_refuses head nodes 7 k (sym e)
+form_refusal head nodes (Carry k) e = form_refuses head nodes 8 k (sym e)
+form_refusal head nodes (Refused.Offset k) e = form_refuses head nodes 9 k (sym e)
+form_refusal head nodes Long e = form_refuses head nodes 10 0 (sym e)
+form_refusal head nodes (Out k) e = sym (refusal_first (Out k) _ _ (sym e))
+form_refusal head nodes (Fault k) e = sym (refusal_first (Fault k) _ _ (sym e))
 
 pub form_passes : (head nodes : List ℕ) → checking vector_bytes head nodes ≡ done
     → offset_check vector_bytes (graph_of head nodes) ≡ offset_checking vector_bytes head nodes

@@ -29,7 +29,7 @@ use Rattle.placing.proofs.MoveLaws.{load_offset, op_offset_lem}
 
 -- ---- one node and its inputs
 
-record_is : (W : ℕ) (m : Moves) (nodes : List ℕ) (k : ℕ) (n : Node) (o : Offset) → n ≡ node_at nodes k → o ≡ moved_offset W m (node_at nodes) k
+pub record_is : (W : ℕ) (m : Moves) (nodes : List ℕ) (k : ℕ) (n : Node) (o : Offset) → n ≡ node_at nodes k → o ≡ moved_offset W m (node_at nodes) k
     → record { node = n; offset = o } ≡ record_of W m nodes k
 record_is W m nodes k n o p q = rw (p, q)
 

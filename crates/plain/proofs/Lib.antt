@@ -1,3 +1,4 @@
+pub mod WindowLaws
 pub mod ValueLaws
 pub mod LoopLaws
 pub mod JudgeLaws

@@ -31,7 +31,7 @@ module _ (byte : ℕ) (input : List ℕ) where
   unfolding place_of
   place_after at = omega arith
 
-  place_between : (at : ℕ) → at ≤ length input → (at ≤ place_of byte input at) × (place_of byte input at ≤ length input)
+  pub place_between : (at : ℕ) → at ≤ length input → (at ≤ place_of byte input at) × (place_of byte input at ≤ length input)
   unfolding place_of
   place_between at h = (omega arith, omega (arith, passed_most at))
 

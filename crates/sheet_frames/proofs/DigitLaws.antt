@@ -2,7 +2,7 @@
 -- the same spell the same.
 use Prim.Native.Nat.{ℕ, zero, suc, ◌+◌, ◌-◌, ◌*◌, ◌^◌, ◌≤◌, ◌<◌}
 use mathlib.Core.Path.{◌≡◌, refl, sym, ◌∙◌}
-use mathlib.Core.Bool.{Bool, true, false, cond, ◌||◌, or-true}
+use mathlib.Core.Bool.{Bool, true, false, cond, ◌||◌, or-true, false≢true}
 use mathlib.Core.List.{List}
 use native.Mathlib.Nat.{zero-add, add-zero, suc-add, pow-suc, pow-le-pow_right}
 use native.Mathlib.Numerals.{add-one}
@@ -45,6 +45,19 @@ a_digit b d = go (is_digit b)
     go : (t : Bool) → Some d ≡ cond t (Some (digit_of b)) None → (t ≡ true) × (d ≡ digit_of b)
     go true e = (refl, cc)
     go false e = (cc, cc)
+
+-- 0 counts nothing, as no other digit does
+pub digit_past_0 : (b : ℕ) → is_digit b ≡ true → (b ≡ 48 → ⊥) → 0 < digit_of b
+unfolding is_digit digit_of
+digit_past_0 b d ne = go (ltb b 48) refl (leb b 57) (ltb b 65) refl (leb b 70) d
+  where
+    go : (p : Bool) → ltb b 48 ≡ p → (q r : Bool) → ltb b 65 ≡ r → (s : Bool)
+        → cond p false (cond q true (cond r false s)) ≡ true → 0 < cond p 0 (cond q (b - 48) (cond r 0 (cond s (b - 55) 0)))
+    go true e q r f s t = absurd (false≢true t)
+    go false e true r f s t = omega (arith, ltb-false b 48 e)
+    go false e false true f s t = absurd (false≢true t)
+    go false e false false f true t = omega (arith, ltb-false b 65 f)
+    go false e false false f false t = absurd (false≢true t)
 
 -- ---- several
 

@@ -80,80 +80,82 @@ module _ {t : Tree} {S : ℕ} (r : Root t S) where
   no_body section (suc zero) h = written_none section 0
   no_body section (suc (suc full)) h = absurd (omega arith)
 
-  -- what is free after the old block, and how it goes on; x and y are the registers of the new block and of the old one
-  module _ {before one : List ℕ} {first : ℕ} (room : Roomy before) (w : Written before one 0 first (new_and_old S t))
-      (x y : ℕ) (x_is : x + 2 ≡ first) (y_is : y + 1 ≡ first) where
+  -- what is free after the old block, and how it goes on
+  module _ {before one : List ℕ} {first : ℕ} (room : Roomy before)
+      (w : Written before one 0 first (new_and_old S t)) where
     first_row : first ≡ G t + 1
     first_row =
         let n = length-append (new vector_bytes S t) (old_block vector_bytes S t (G t) ∷ []) in
         omega (arith, w.rows, n, length_code vector_bytes t (block_zero vector_bytes) 0)
 
-    blocks_room : (first + 3 ≤ section_most) × Roomy one
+    pub blocks_room : (2 ≤ first) × (first + 3 ≤ section_most) × Roomy one
     blocks_room =
         let e = first_row in
-        (omega (arith, r.short), omega (arith, room, written_length w))
+        (omega (arith, size_pos t), omega (arith, r.short), omega (arith, room, written_length w))
 
     then : {after : List ℕ} {next : ℕ} (is : List Instruction) → Written one after first next is
         → Written before after 0 next (new vector_bytes S t ++ (old_block vector_bytes S t (G t) ∷ is))
     then is v = rw append_assoc at (written_then w v)
 
     here : first < section_most
-    here = omega (arith, blocks_room.0)
+    here = omega (arith, blocks_room.1)
 
-    new_is : x ≡ G t - 1
-    new_is = omega (arith, first_row)
+    -- x and y are the registers of the new block and of the old one
+    module _ (x y : ℕ) (x_is : x + 2 ≡ first) (y_is : y + 1 ≡ first) where
+      new_is : x ≡ G t - 1
+      new_is = omega (arith, first_row)
 
-    old_is : y ≡ G t
-    old_is = omega (arith, first_row)
+      old_is : y ≡ G t
+      old_is = omega (arith, first_row)
 
-    -- a splice right after the blocks, and the store of what it made
-    spliced_stored : {two after : List ℕ} {last next : ℕ} (a b amount : ℕ) → amount < low_values
-        → handed last two ≡ putting one first (Splice first a b (cut amount))
-        → handed next after ≡ putting two last (Store first (cut (held vector_bytes S)))
-        → Written one after first next (Splice first a b amount ∷ Store first (held vector_bytes S) ∷ [])
-    spliced_stored {two} {after} {last} {next} a b amount small spliced stored =
-        let p : Written one two first last (Splice first a b amount ∷ []) = splice_written here blocks_room.1 small spliced in
-        let long = written_length p in
-        written_then p (store_written (omega (arith, p.rows, blocks_room.0)) (omega (arith, blocks_room.1)) r.address stored)
-
-    module _ {two : List ℕ} {last c : ℕ} (at_c : c ≡ store_offset vector_bytes S) where
-      pub prologue_written : {after : List ℕ} {next : ℕ}
-          → handed last two ≡ putting one first (Splice first y x (cut c))
+      -- a splice right after the blocks, and the store of what it made
+      spliced_stored : {two after : List ℕ} {last next : ℕ} (a b amount : ℕ) → amount < low_values
+          → handed last two ≡ putting one first (Splice first a b (cut amount))
           → handed next after ≡ putting two last (Store first (cut (held vector_bytes S)))
-          → Written before after 0 next (prologue_section vector_bytes S t)
-      unfolding prologue_section
-      prologue_written spliced stored =
-          rw (old_is, new_is, at_c, first_row) at (then _ (spliced_stored y x c (offset_fits S c at_c) spliced stored))
-
-      pub only_written : (D n : ℕ) → n * D ≤ elements_most * 8 → {len : ℕ} → len ≡ n * D → {three after : List ℕ} {second next : ℕ}
-          → handed second two ≡ putting one first (Splice first y x (cut c))
-          → handed last three ≡ putting two second (Splice second first y (cut (c + len)))
-          → handed next after ≡ putting three last (Store second (cut (held vector_bytes S)))
-          → Written before after 0 next (only_section vector_bytes S t D n)
-      unfolding only_section
-      only_written D n few {len} l {three} {after} {second} {next} spliced again stored =
-          let p : Written one two first second (Splice first y x c ∷ []) =
-          splice_written here blocks_room.1 (offset_fits S c at_c) spliced in
+          → Written one after first next (Splice first a b amount ∷ Store first (held vector_bytes S) ∷ [])
+      spliced_stored {two} {after} {last} {next} a b amount small spliced stored =
+          let p : Written one two first last (Splice first a b amount ∷ []) = splice_written here blocks_room.2 small spliced in
           let long = written_length p in
-          let end_fits : c + len < low_values = omega (arith, offset_small S) in
-          let q : Written two three second last (Splice second first y (c + len) ∷ []) =
-          splice_written (omega (arith, p.rows, blocks_room.0)) (omega (arith, blocks_room.1)) end_fits again in
-          let long' = written_length q in
-          let s : Written three after last next (Store second (held vector_bytes S) ∷ []) =
-          store_written (omega (arith, p.rows, q.rows, blocks_room.0)) (omega (arith, blocks_room.1)) r.address stored in
-          let f = first_row in
-          let e : second ≡ G t + 2 = omega (arith, p.rows) in
-          rw (old_is, new_is, at_c, l, e, f) at (then _ (written_then p (written_then q s)))
+          written_then p (store_written (omega (arith, p.rows, blocks_room.1)) (omega (arith, blocks_room.2)) r.address stored)
 
-    pub epilogue_written : (D e : ℕ) → (e ≡ 0 → ⊥) → e * D ≤ elements_most * 8 → {len : ℕ} → len ≡ e * D
-        → {two after : List ℕ} {last next : ℕ}
-        → handed last two ≡ putting one first (Splice first x y (cut len))
-        → handed next after ≡ putting two last (Store first (cut (held vector_bytes S)))
-        → Written before after 0 next (epilogue_of vector_bytes D S t e)
-    unfolding epilogue_section
-    epilogue_written D zero h few l spliced stored = absurd (h refl)
-    epilogue_written D (suc e) h few {len} l spliced stored =
-        rw (old_is, new_is, l, first_row) at (then _ (spliced_stored x y len (omega arith) spliced stored))
+      module _ {two : List ℕ} {last c : ℕ} (at_c : c ≡ store_offset vector_bytes S) where
+        pub prologue_written : {after : List ℕ} {next : ℕ}
+            → handed last two ≡ putting one first (Splice first y x (cut c))
+            → handed next after ≡ putting two last (Store first (cut (held vector_bytes S)))
+            → Written before after 0 next (prologue_section vector_bytes S t)
+        unfolding prologue_section
+        prologue_written spliced stored =
+            rw (old_is, new_is, at_c, first_row) at (then _ (spliced_stored y x c (offset_fits S c at_c) spliced stored))
+
+        pub only_written : (D n : ℕ) → n * D ≤ elements_most * 8 → {len : ℕ} → len ≡ n * D → {three after : List ℕ} {second next : ℕ}
+            → handed second two ≡ putting one first (Splice first y x (cut c))
+            → handed last three ≡ putting two second (Splice second first y (cut (c + len)))
+            → handed next after ≡ putting three last (Store second (cut (held vector_bytes S)))
+            → Written before after 0 next (only_section vector_bytes S t D n)
+        unfolding only_section
+        only_written D n few {len} l {three} {after} {second} {next} spliced again stored =
+            let p : Written one two first second (Splice first y x c ∷ []) =
+            splice_written here blocks_room.2 (offset_fits S c at_c) spliced in
+            let long = written_length p in
+            let end_fits : c + len < low_values = omega (arith, offset_small S) in
+            let q : Written two three second last (Splice second first y (c + len) ∷ []) =
+            splice_written (omega (arith, p.rows, blocks_room.1)) (omega (arith, blocks_room.2)) end_fits again in
+            let long' = written_length q in
+            let s : Written three after last next (Store second (held vector_bytes S) ∷ []) =
+            store_written (omega (arith, p.rows, q.rows, blocks_room.1)) (omega (arith, blocks_room.2)) r.address stored in
+            let f = first_row in
+            let e : second ≡ G t + 2 = omega (arith, p.rows) in
+            rw (old_is, new_is, at_c, l, e, f) at (then _ (written_then p (written_then q s)))
+
+      pub epilogue_written : (D e : ℕ) → (e ≡ 0 → ⊥) → e * D ≤ elements_most * 8 → {len : ℕ} → len ≡ e * D
+          → {two after : List ℕ} {last next : ℕ}
+          → handed last two ≡ putting one first (Splice first x y (cut len))
+          → handed next after ≡ putting two last (Store first (cut (held vector_bytes S)))
+          → Written before after 0 next (epilogue_of vector_bytes D S t e)
+      unfolding epilogue_section
+      epilogue_written D zero h few l spliced stored = absurd (h refl)
+      epilogue_written D (suc e) h few {len} l spliced stored =
+          rw (old_is, new_is, l, first_row) at (then _ (spliced_stored x y len (omega arith) spliced stored))
 
   pub no_epilogue : (section : List ℕ) (D e : ℕ) → e ≡ 0 → Written section section 0 0 (epilogue_of vector_bytes D S t e)
   no_epilogue section D e h = rw h (written_none section 0)

@@ -87,7 +87,7 @@ module _ (m : ℕ) (l : m < 8) where
 
 -- ---- two vectors of sixteen bytes joined, by their four elements of eight
 
-straddled : (v : List ℕ) (at m low high to : ℕ) → Bytes v → m < 8 → low ≡ element 8 v at → high ≡ element 8 v (at + 8) → at + m ≡ to
+pub straddled : (v : List ℕ) (at m low high to : ℕ) → Bytes v → m < 8 → low ≡ element 8 v at → high ≡ element 8 v (at + 8) → at + m ≡ to
     → low / 256 ^ m + 256 ^ (8 - m) * (high % 256 ^ m) ≡ element 8 v to
 straddled v at m low high to b l e f g =
     let s : m + (8 - m) ≡ 8 = omega (arith, l) in
@@ -101,7 +101,7 @@ joined_right : (v w : List ℕ) (n k : ℕ) → length v ≡ n → n ≤ k → g
 joined_right v w n k e h = sym (rw e at (get_or_pastˡ v w k (omega arith)))
 
 module _ (v1 v2 : List ℕ) (n1 : length v1 ≡ 16) (n2 : length v2 ≡ 16) where
-  joined_bytes : Bytes v1 → Bytes v2 → Bytes (v1 ++ v2)
+  pub joined_bytes : Bytes v1 → Bytes v2 → Bytes (v1 ++ v2)
   unfolding Bytes
   joined_bytes b1 b2 i = split i 16
       (λ (h : i < 16). rw (← joined_left v1 v2 i (omega arith)) (b1 i))
@@ -120,7 +120,7 @@ module _ (v1 v2 : List ℕ) (n1 : length v1 ≡ 16) (n2 : length v2 ≡ 16) wher
   fourth_of_pair = element_right 8 v1 v2 16 8 n1
 
   -- two elements side by side are what vshiftpair takes out
-  pair_of_elements : (l x y : ℕ) → Bytes (v1 ++ v2) → l ≤ 16 → x ≡ element 8 (v1 ++ v2) l → y ≡ element 8 (v1 ++ v2) (l + 8)
+  pub pair_of_elements : (l x y : ℕ) → Bytes (v1 ++ v2) → l ≤ 16 → x ≡ element 8 (v1 ++ v2) l → y ≡ element 8 (v1 ++ v2) (l + 8)
       → to_bytes 8 x ++ to_bytes 8 y ≡ vshiftpair 16 v1 v2 l
   unfolding vshiftpair
   pair_of_elements l x y b h e f = rw (e, f) (part_halves 8 (v1 ++ v2) l b (simp length-append (omega arith)))

@@ -1,6 +1,6 @@
--- Vectors filled element by element, and a vector that is known by its elements.
+-- Vectors filled element by element, a vector that is known by its elements, and elements joined from their halves.
 -- Assumes nothing.
-use Rattle.std.proofs.Common.{◌≡◌, ℕ, zero, suc, ◌+◌, ◌*◌, ◌/◌, ◌%◌, ◌<◌, ◌≤◌, List, length, take, refl, sym, ◌∙◌, arith, add-one, mod-eq_of_lt}
+use Rattle.std.proofs.Common.{◌≡◌, ℕ, zero, suc, ◌+◌, ◌*◌, ◌/◌, ◌%◌, ◌^◌, ◌<◌, ◌≤◌, List, ◌++◌, length, take, refl, sym, ◌∙◌, arith, add-one, mod-eq_of_lt}
 use Rattle.std.proofs.Math.Nat.{mul-le-mul_right}
 use Rattle.std.proofs.Math.Seq.{paste, take_all}
 use Rattle.std.proofs.lemmas.List.Edits.{length-paste, take-paste}
@@ -8,6 +8,7 @@ use Rattle.rules.specs.Limits.{vector_bytes}
 use Rattle.rules.specs.Elements.{to_bytes}
 use Rattle.rules.specs.Vectors.{lanes}
 use Rattle.theory.proofs.Numbers.{length_to_bytes}
+use Rattle.theory.proofs.ElementLaws.{to_bytes_halves}
 
 -- the first n elements of r are as f says
 pub record Filled (D n : ℕ) (f : ℕ → ℕ) (r : List ℕ) : Type 0 where
@@ -41,3 +42,10 @@ filled_whole {D} {n} {f} {r} w e h = sym (take_all vector_bytes r (omega (arith,
 pub lanes_ext : (n : ℕ) (g h : ℕ → List ℕ) → ((k : ℕ) → k < n → g k ≡ h k) → lanes n g ≡ lanes n h
 lanes_ext zero g h e = refl
 lanes_ext (suc n) g h e = rw (lanes_ext n g h (λ k l. e k (omega arith)), e n (omega arith))
+
+-- elements joined from their halves
+pub halves_joined : (d n : ℕ) (x : ℕ → ℕ)
+    → lanes n (λ k. to_bytes d (x k % 256 ^ d) ++ to_bytes d (x k / 256 ^ d % 256 ^ d)) ≡ lanes n (λ k. to_bytes (d + d) (x k))
+halves_joined d n x =
+    lanes_ext n (λ k. to_bytes d (x k % 256 ^ d) ++ to_bytes d (x k / 256 ^ d % 256 ^ d)) (λ k. to_bytes (d + d) (x k))
+    (λ k l. to_bytes_halves d (x k))

@@ -1,14 +1,33 @@
--- The elements of an operation on two vectors, and an operation above the last.
+-- Lanes: bytes as elements of one byte, the elements of an operation on two vectors, and an operation above the last.
 -- Assumes nothing.
-use Rattle.std.specs.Prelude.{ℕ, zero, suc, ◌≡◌, ◌*◌, List, Result}
-use mathlib.Core.Path.{refl, ap, ◌∙◌}
+use Rattle.std.specs.Prelude.{ℕ, zero, suc, ◌≡◌, ◌+◌, ◌*◌, List, Result}
+use mathlib.Core.Path.{refl, sym, ap, ◌∙◌}
+use native.Mathlib.Omega.{arith}
+use native.Mathlib.Nat.{mod-eq_of_lt}
+use lib.ListN.{length, get_or}
+use lib.Seq.{ext_get_or}
 use Rattle.std.specs.Result.{result_unwrap_or}
-use Rattle.rules.specs.Vectors.{vop}
+use Rattle.rules.specs.Vectors.{lanes, vop}
 use Rattle.operations.specs.Numbered.{operation_number, operation_of}
 use Rattle.rules.specs.declared.kinds.Unknown.{Unknown}
 use Rattle.operations.specs.declared.Operation.{Operation}
 use Rattle.operations.specs.declared.Operation.TheVariants.{SignedMaximum}
-use Rattle.rules.specs.Elements.{element, operate}
+use Rattle.rules.specs.Elements.{to_bytes, element, operate}
+use Rattle.theory.proofs.Lists.{length_lanes, get_or_lanes}
+use Rattle.theory.proofs.Numbers.{Bytes, length_to_bytes}
+
+-- bytes are elements of one byte
+pub bytes_lanes : (r : List ℕ) → Bytes r → r ≡ lanes (length r) (λ k. to_bytes 1 (get_or r k 0))
+unfolding Bytes
+bytes_lanes r b =
+    let f : ℕ → List ℕ = λ k. to_bytes 1 (get_or r k 0) in
+    let n = length r in
+    let s : length (lanes n f) ≡ n * 1 = length_lanes 1 f (λ k. length_to_bytes 1 (get_or r k 0)) n in
+    ext_get_or 0 r (lanes n f) (omega arith)
+    (λ k l.
+    let e : k * 1 + 0 ≡ k = omega arith in
+    let g = get_or_lanes 1 f (λ k. length_to_bytes 1 (get_or r k 0)) n k 0 l (omega arith) in
+    sym (rw e at g ∙ mod-eq_of_lt (b k)))
 
 -- element k of a lane operation
 abbrev pub operated : (D o : ℕ) → List ℕ → List ℕ → ℕ → ℕ
