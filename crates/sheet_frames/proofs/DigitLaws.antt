@@ -46,7 +46,15 @@ a_digit b d = go (is_digit b)
     go true e = (refl, cc)
     go false e = (cc, cc)
 
--- 0 counts nothing, as no other digit does
+-- 0 is a digit and counts nothing, as no other digit does
+pub zero_digit : is_digit 48 ≡ true
+unfolding is_digit
+zero_digit = refl
+
+pub zero_counts : digit_of 48 ≡ 0
+unfolding digit_of
+zero_counts = refl
+
 pub digit_past_0 : (b : ℕ) → is_digit b ≡ true → (b ≡ 48 → ⊥) → 0 < digit_of b
 unfolding is_digit digit_of
 digit_past_0 b d ne = go (ltb b 48) refl (leb b 57) (ltb b 65) refl (leb b 70) d
@@ -110,6 +118,23 @@ module _ (text : List ℕ) where
   short_past at k p h =
       let z : get_or text (at + (k - 1)) 0 ≡ 0 = get_or-eq_default text 0 (omega arith) in
       short_here at (k - 1) k (omega arith) (rw z)
+
+  -- two digits
+  pub two : (at : ℕ) → is_digit (get_or text at 0) ≡ true → is_digit (get_or text (at + 1) 0) ≡ true → short text at 2 ≡ false
+  unfolding digit_run
+  two at d e = rw (d, e)
+
+  pub first_of_two : (at : ℕ) → short text at 2 ≡ false → is_digit (get_or text at 0) ≡ true
+  unfolding digit_run
+  first_of_two at h = go (is_digit (get_or text at 0)) refl
+    where
+      go : (t : Bool) → is_digit (get_or text at 0) ≡ t → is_digit (get_or text at 0) ≡ true
+      go true e = e
+      go false e = absurd (false≢true (rw e at (sym h)))
+
+  pub spelled_two : (at : ℕ) → spelled text at 2 ≡ digit_of (get_or text at 0) * 16 + digit_of (get_or text (at + 1) 0)
+  unfolding spelled
+  spelled_two at = rw add-zero (omega arith)
 
   pub spelled_none : (at : ℕ) → 0 ≡ spelled text at 0
   unfolding spelled

@@ -16,8 +16,8 @@ use Rattle.rules.specs.declared.kinds.FrameKind.{FrameKind}
 use Rattle.rules.specs.declared.kinds.FrameKind.TheVariants as Frame
 use Rattle.rules.specs.declared.sheet.FieldDigits.{FieldDigits}
 use Rattle.rules.specs.declared.sheet.Fields.{Fields}
-use Rattle.sheet_frames.specs.Numbers.{short, number_at, kind_at}
-use Rattle.sheet_frames.proofs.DigitLaws.{short_split, short_past, number_broken, spelt, broken}
+use Rattle.sheet_frames.specs.Numbers.{digit_at, short, number_at, kind_at}
+use Rattle.sheet_frames.proofs.DigitLaws.{no_digit, a_digit, zero_digit, zero_counts, digit_past_0, short_split, short_here, short_past, two, first_of_two, spelled_two, number_is, number_broken, spelt, broken}
 
 module _ (text : List ℕ) (at kind : ℕ) (w : FieldDigits) where
   abbrev fed : Bool
@@ -86,6 +86,15 @@ kind_most (suc (suc (suc (suc zero)))) e = cc
 kind_most (suc (suc (suc (suc (suc zero))))) e = cc
 kind_most (suc (suc (suc (suc (suc (suc k)))))) e = omega arith
 
+kind_above : (n : ℕ) → end_kind < n → None ≡ kind_of n
+kind_above zero h = absurd (omega (arith, h))
+kind_above (suc zero) h = absurd (omega (arith, h))
+kind_above (suc (suc zero)) h = absurd (omega (arith, h))
+kind_above (suc (suc (suc zero))) h = absurd (omega (arith, h))
+kind_above (suc (suc (suc (suc zero)))) h = absurd (omega (arith, h))
+kind_above (suc (suc (suc (suc (suc zero))))) h = absurd (omega (arith, h))
+kind_above (suc (suc (suc (suc (suc (suc k)))))) h = refl
+
 kind_numbered : (n : ℕ) (kind : FrameKind) → Some kind ≡ kind_of n → (n ≡ frame_number kind) × (n ≤ end_kind)
 kind_numbered zero kind e = let k : kind ≡ Frame.Header = cc in (rw k, omega arith)
 kind_numbered (suc zero) kind e = let k : kind ≡ Frame.Load = cc in (rw k, omega arith)
@@ -108,6 +117,28 @@ module _ (text : List ℕ) (at : ℕ) where
   pub kind_is : (n : ℕ) → Some n ≡ number_at text at 2 → kind_of n ≡ kind_at text at
   unfolding kind_at
   kind_is n e = rw (← e)
+
+  -- a kind byte that does not begin with 0
+  pub kind_past_0 : (get_or text at 0 ≡ 48 → ⊥) → None ≡ kind_at text at
+  kind_past_0 ne = go (number_at text at 2) refl
+    where
+      go : (n : Option ℕ) → n ≡ number_at text at 2 → None ≡ kind_at text at
+      go None e = kind_broken e
+      go (Some n) e =
+          let s = spelt text at 2 n e in
+          let most = digit_past_0 (get_or text at 0) (first_of_two text at s.0) ne in
+          kind_above n (omega (arith, s.1, spelled_two text at, most)) ∙ kind_is n e
+
+  -- and one that does, by its second digit
+  pub kind_by_second : get_or text at 0 ≡ 48 → kind_at text at ≡ option_and_then kind_of (digit_at (get_or text (at + 1) 0))
+  kind_by_second first = go (digit_at (get_or text (at + 1) 0)) refl
+    where
+      go : (n : Option ℕ) → n ≡ digit_at (get_or text (at + 1) 0) → kind_at text at ≡ option_and_then kind_of n
+      go None e = sym (kind_broken (number_broken text at 2 (short_here text at 1 2 (omega arith) (no_digit _ e))))
+      go (Some n) e =
+          let d = a_digit _ n e in
+          let value : spelled text at 2 ≡ n = spelled_two text at ∙ rw (first, zero_counts, ← d.1) (omega arith) in
+          sym (kind_is n (rw value at (number_is text at 2 (two text at (rw first zero_digit) d.0))))
 
   pub no_kind : None ≡ kind_at text at → None ≡ frame_at text at
   unfolding kind_at frame_at

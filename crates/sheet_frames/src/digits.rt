@@ -8,7 +8,7 @@ const BASE: u64 = 16;
 const TEN: u64 = 10;
 
 #[tactic(auto, unfolding(crate::specs::Numbers::digit_at, rules::specs::Digits::is_digit, rules::specs::Digits::digit_of))]
-fn digit(b: u8) -> Option<u64>
+pub(crate) fn digit(b: u8) -> Option<u64>
     ensures { result ≡ digit_at b }
 {
     if b.is_ascii_digit() {

@@ -10,13 +10,16 @@ ghost use Rattle.rules.specs.Kinds.{frame_number};
 ghost use Rattle.sheet_frames.specs.Numbers.{digits_most, short, kind_at};
 ghost use Rattle.sheet_frames.specs.Headers.{header_of, later_of};
 
-use crate::digits::number;
+use crate::digits::{digit, number};
 use rules::kinds::FrameKind;
 use rules::limits::LINE_FEED;
 use rules::sheet::Fields;
 
 // The digits of the kind byte.
 const KIND: usize = 2;
+
+// The first digit of every kind.
+const ZERO: u8 = b'0';
 
 // A frame whose fields have so many digits, one field after the other.
 #[inline(always)]
@@ -48,12 +51,16 @@ fn frame<const X: usize, const Y: usize, const Z: usize>(
     })
 }
 
-// The kind that the kind byte at a place names.
+// The kind that the kind byte at a place names, by its second digit.
 fn kind_at(text: &[u8], place: u32) -> Option<FrameKind>
     ensures { result ≡ kind_at text.now place }
 {
     let at = place as usize;
-    let number = number(text.get(at..at + KIND)?)?;
+    let second = *text.get(at + 1)?;
+    if text[at] != ZERO {
+        return None;
+    }
+    let number = digit(second)?;
     FrameKind::try_from(number).ok()
 }
 

@@ -1,25 +1,26 @@
--- Past the end, broken, or the kind of its number.
+-- Past the end, begun with no 0, broken, or the kind of its second digit.
 use native.Mathlib.Omega.{arith}
-use mathlib.Core.Path.{refl, ◌∙◌}
-use Rattle.sheet_frames.proofs.DigitLaws.{number_slice}
-use Rattle.sheet_frames.proofs.FrameLaws.{kind_past, kind_broken, kind_is}
+use mathlib.Core.Path.{sym, ◌∙◌}
+use borrow.Author.Tests.{ltb-false}
+use Rattle.sheet_frames.proofs.FrameLaws.{kind_past, kind_past_0, kind_by_second}
 use Rattle.sheet_frames.proofs.kind_at.Goals as goal
 
-pub returns-in_err-get : goal.returns-in_err-get
-returns-in_err-get c =
+pub returns-in_err-second : goal.returns-in_err-second
+returns-in_err-second c =
     rw c.from_residual.ensures
-    (kind_past c.args.text.now c.args.place (omega (arith, c.in_err-get.ensures.lookup.0)))
+    (kind_past c.args.text.now c.args.place (omega (arith, ltb-false _ _ (sym c.in_err-second.ensures.lookup.0))))
+
+pub returns-then-text-at-ne-ZERO : goal.returns-then-text-at-ne-ZERO
+returns-then-text-at-ne-ZERO c = kind_past_0 c.args.text.now c.args.place c.if-text-at-ne-ZERO.true
 
 pub returns-in_err-number : goal.returns-in_err-number
 returns-in_err-number c =
     let a = c.args in
-    let slice = c.in_ok-get.ensures.lookup.0 in
-    rw c.from_residual-in_err-number.ensures
-    (kind_broken a.text.now a.place (c.in_err-number.ensures ∙ number_slice a.text.now a.place 2 refl slice.1 slice.2))
+    let second = kind_by_second a.text.now a.place c.if-text-at-ne-ZERO.false in
+    rw (c.from_residual-in_err-number.ensures, second, ← c.in_ok-second.ensures.lookup.3.1 0, ← c.in_err-number.ensures)
 
 pub returns : goal.returns
 returns c =
     let a = c.args in
-    let slice = c.in_ok-get.ensures.lookup.0 in
-    c.ok.ensures.value
-    ∙ rw c.try_from.ensures (kind_is a.text.now a.place _ (c.in_ok-number.ensures ∙ number_slice a.text.now a.place 2 refl slice.1 slice.2))
+    let second = kind_by_second a.text.now a.place c.if-text-at-ne-ZERO.false in
+    c.ok.ensures.value ∙ rw (c.try_from.ensures, second, ← c.in_ok-second.ensures.lookup.3.1 0, ← c.in_ok-number.ensures)
