@@ -86,15 +86,6 @@ kind_most (suc (suc (suc (suc zero)))) e = cc
 kind_most (suc (suc (suc (suc (suc zero))))) e = cc
 kind_most (suc (suc (suc (suc (suc (suc k)))))) e = omega arith
 
-kind_above : (n : ℕ) → end_kind < n → None ≡ kind_of n
-kind_above zero h = absurd (omega (arith, h))
-kind_above (suc zero) h = absurd (omega (arith, h))
-kind_above (suc (suc zero)) h = absurd (omega (arith, h))
-kind_above (suc (suc (suc zero))) h = absurd (omega (arith, h))
-kind_above (suc (suc (suc (suc zero)))) h = absurd (omega (arith, h))
-kind_above (suc (suc (suc (suc (suc zero))))) h = absurd (omega (arith, h))
-kind_above (suc (suc (suc (suc (suc (suc k)))))) h = refl
-
 kind_numbered : (n : ℕ) (kind : FrameKind) → Some kind ≡ kind_of n → (n ≡ frame_number kind) × (n ≤ end_kind)
 kind_numbered zero kind e = let k : kind ≡ Frame.Header = cc in (rw k, omega arith)
 kind_numbered (suc zero) kind e = let k : kind ≡ Frame.Load = cc in (rw k, omega arith)
@@ -103,6 +94,13 @@ kind_numbered (suc (suc (suc zero))) kind e = let k : kind ≡ Frame.Op = cc in 
 kind_numbered (suc (suc (suc (suc zero)))) kind e = let k : kind ≡ Frame.Shift = cc in (rw k, omega arith)
 kind_numbered (suc (suc (suc (suc (suc zero))))) kind e = let k : kind ≡ Frame.End = cc in (rw k, omega arith)
 kind_numbered (suc (suc (suc (suc (suc (suc k)))))) kind e = cc
+
+kind_above : (n : ℕ) → end_kind < n → None ≡ kind_of n
+kind_above n h = go (kind_of n) refl
+  where
+    go : (k : Option FrameKind) → k ≡ kind_of n → None ≡ kind_of n
+    go None e = e
+    go (Some kind) e = absurd (omega (arith, h, (kind_numbered n kind e).1))
 
 module _ (text : List ℕ) (at : ℕ) where
   -- the text ends within the kind byte, or it is broken
